@@ -55,6 +55,24 @@ static uint32_t check_host(raf_blob file, raf_blob key) {
   return raf_check_host_key(&login, key.bytes, key.length);
 }
 
+/* The same by a text that is held: its places are written before the first call. */
+static uint32_t check_held_host(raf_blob file, raf_blob key) {
+  static raf_line_place *places;
+  static size_t count;
+  raf_line_place none = {0, 0};
+  if (!places) {
+    raf_place_hosts(file.bytes, file.length, &none, 0, &count);
+    places = calloc(count + 1, sizeof *places);
+    if (!places || raf_place_hosts(file.bytes, file.length, places, count, &count) != RAF_DONE)
+      exit(3);
+  }
+  raf_host_login login = {{NULL, 0}, raf_text_span("host.example.com"), RAF_NO_REVOCATIONS, AT,
+                          2048, 22};
+  login.known_hosts.items = login.revoked.items;
+  return raf_check_held_host_key(&login, file.bytes, file.length, places, count, key.bytes,
+                                 key.length);
+}
+
 /* A login by these texts of authorized_keys, or of principals by the authority that signed what is
  * offered. */
 static uint32_t check_login(raf_blob offered, raf_texts keys, raf_texts principals) {
@@ -109,6 +127,7 @@ static uint32_t call(const char *kind, raf_blob file, raf_blob second) {
   if (!strcmp(kind, "addresses"))
     return raf_check_source_address(file.bytes, file.length, address, sizeof address);
   if (!strcmp(kind, "hosts")) return check_host(file, second);
+  if (!strcmp(kind, "held-hosts")) return check_held_host(file, second);
   if (!strcmp(kind, "users")) return check_user(file, second);
   if (!strcmp(kind, "texts")) return check_texts(file, second);
   if (!strcmp(kind, "principals")) return check_principals(file, second);

@@ -1,11 +1,12 @@
 /* Makes a call of the library for C so many times, for bench/foreign:
  *
- *     foreign question|validate|login-questions|verdict|log-in|fields|fingerprint|verify CALLS <FILE.pub
+ *     foreign question|validate|login-questions|verdict|log-in|fields|fingerprint|line|verify CALLS <FILE.pub
  *
  * `login-questions` and `verdict` are the two calls of a login which lets in by an Ed25519 key in a
  * certificate, with the client's signature in it, and `log-in` both, which is all that is asked but
- * the verification; `verify` is what libcrypto takes to answer the authority's question. It prints
- * nanoseconds of processor time a call, and what the last one answered. */
+ * the verification; `line` reads the line of the certificate, and `verify` is what libcrypto takes to
+ * answer the authority's question. It prints nanoseconds of processor time a call, and what the last
+ * one answered. */
 #include <stdio.h>
 #include <stdlib.h>
 #include <string.h>
@@ -17,6 +18,7 @@
 static raf_question question;
 static raf_login_questions questions;
 static uint8_t buffer[1 << 16];
+static raf_span given_line;
 static raf_sha256 authority;
 /* the form of a signature: the two calls verify nothing */
 static const uint8_t signature[] = "\0\0\0\013ssh-ed25519\0\0\0\100"
@@ -58,6 +60,14 @@ static uint32_t log_in(raf_blob given) {
   return verdict(given);
 }
 
+static uint32_t read_line(void) {
+  raf_blob found = {NULL, 0};
+  uint32_t status = raf_read_line_blob((const char *)given_line.bytes, given_line.length,
+                                       RAF_LINE_CERTIFICATE, &found);
+  free(found.bytes);
+  return status;
+}
+
 /* Reads the authority that the verdict is given. */
 static void read_certificate(raf_blob given) {
   raf_parts parts;
@@ -73,6 +83,7 @@ static uint32_t call(const char *what, raf_blob given) {
   if (!strcmp(what, "login-questions")) return login_questions(given);
   if (!strcmp(what, "verdict")) return verdict(given);
   if (!strcmp(what, "log-in")) return log_in(given);
+  if (!strcmp(what, "line")) return read_line();
   if (!strcmp(what, "validate"))
     return raf_check_certificate_for(given.bytes, given.length, 1, (const uint8_t *)"user", 4,
                                      &authority, 1, 1);
@@ -90,6 +101,7 @@ int main(int count, char **words) {
   if (raf_read_line_blob(line, (size_t)length, RAF_LINE_CERTIFICATE, &given) != RAF_DONE &&
       raf_read_line_blob(line, (size_t)length, RAF_LINE_KEY, &given) != RAF_DONE)
     return 2;
+  given_line = (raf_span){(const uint8_t *)line, (size_t)length};
   long calls = strtol(words[2], NULL, 10);
   read_certificate(given);
   memset(&questions, 0, sizeof questions);

@@ -386,7 +386,7 @@ static const struct {
     {"entry", ask_entry, "authorized_entry", 1},
     {"host", ask_entry, "known_host", 1},
     {"options", ask_options, "next_line_option", 1},
-    {"host-key", ask_number, "check_host_key", 4},
+    {"host-key", ask_host_key, "check_host_key", 4},
     {"host-certificate", ask_host_certificate, "check_host_certificate", 4},
     {"unreadable-line", ask_counted, "unreadable_host_line", 2},
     {"other-key-line", ask_number, "is_later_key_line", 1},
@@ -416,6 +416,7 @@ static void answer_of_call(char **words) {
   given_call it = given_by(words + 2, SPANS);
   char name[32];
   add_ticket(&it, words[1]);
+  add_places(&it, words[1]);
   it.name = words[1];
   if (!strcmp(words[0], "call")) {
     printf("%" PRIu32, ask(&it, words[1], NULL));

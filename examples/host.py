@@ -71,7 +71,8 @@ def content(path: str) -> bytes:
 
 def are_trusted(host: str, port: int, paths: Collection[str], revoked: Collection[bytes]) -> bool:
     """Whether each key of the input is, but later ones, of which it prints the words. Raises ValueError where a line has no key."""
-    login = rafendilo.HostLogin([content(it) for it in paths], host, port, revoked)
+    texts = [content(it) for it in paths]
+    login = rafendilo.HostLogin(texts, host, port, revoked)
     words = []
     for line in keys_in(sys.stdin.buffer, host, port):
         words.append(word_of_line(login, line))
@@ -79,12 +80,12 @@ def are_trusted(host: str, port: int, paths: Collection[str], revoked: Collectio
     if not words:
         raise ValueError("no key was given")
     if "unreadable" in words:
-        tell_unreadable(login, paths)
+        tell_unreadable(login, zip(paths, texts))
     return set(words) - {"later"} == {"trusted"}
 
 
-def tell_unreadable(login: rafendilo.HostLogin, paths: Collection[str]) -> None:
-    for path, text in zip(paths, login.known_hosts):
+def tell_unreadable(login: rafendilo.HostLogin, files: Iterable[tuple[str, bytes]]) -> None:
+    for path, text in files:
         number = rafendilo.unreadable_host_line(text, login.host, login.port)
         if number is not None:
             print(f"host.py: {path}:{number}: a line that may revoke it and can't be read", file=sys.stderr)

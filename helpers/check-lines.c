@@ -24,7 +24,6 @@ report check_report(const check_request *asked, size_t number) {
   return (report){.path = asked->path ? asked->path : REPORT_INPUT,
                   .line = number,
                   .unix_timestamp = asked->second,
-                  .is_login = asked->mode == CHECK_LOGIN,
                   .is_verdict = asked->mode != CHECK_SHOW && asked->mode != CHECK_FINGERPRINT,
                   .has_art = asked->given[CHECK_ART] != NULL,
                   .is_json = asked->given[CHECK_JSON] != NULL};

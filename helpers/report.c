@@ -12,8 +12,6 @@
 
 /* of the words that say why something is refused */
 #define WORDS 512
-/* what is said of a login where nobody has asked for the client's signature */
-static const char valid_if_signed[] = "valid, if the client signs";
 
 /* ---- why it is refused */
 
@@ -71,10 +69,7 @@ static void write_words(const report *of, uint32_t answer, char *buffer) {
                               of->option, buffer);
   if (answer == RAF_FORMAT) is_written = write_unread(of, buffer);
   if (is_written) return;
-  const char *said = of->words                           ? of->words
-                     : answer == RAF_DONE && of->is_login ? valid_if_signed
-                                                          : raf_status_meaning(answer);
-  snprintf(buffer, WORDS, "%s", said);
+  snprintf(buffer, WORDS, "%s", of->words ? of->words : raf_status_meaning(answer));
 }
 
 void report_complain(const report *of, uint32_t answer) {
@@ -282,9 +277,11 @@ static void print_line(const raf_grant *grant, const uint8_t *buffer) {
   print_second("expires_latest", grant->expires.last);
 }
 
-void report_grant(const report *of, const raf_grant *grant, const uint8_t *buffer) {
+void report_grant(report *of, const raf_grant *grant, const uint8_t *buffer) {
+  /* nobody has asked for the client's signature */
+  of->words = "valid, if the client signs";
   if (!of->is_json) {
-    puts(of->is_login ? valid_if_signed : raf_status_meaning(RAF_DONE));
+    puts(of->words);
     show_grant(grant, buffer, of->by_path, of->certificate.length > 0);
     return;
   }

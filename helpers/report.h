@@ -14,7 +14,7 @@ typedef struct {
   const char *by_path;  /* of the file that lets in or refuses; null where none does */
   size_t by_line;       /* 0 where no line does */
   uint32_t source;      /* RAF_SOURCE_* of that file, or what lets in without one; 0 else */
-  const char *words;    /* why it is refused, where more is known than the answer says; or null */
+  const char *words;    /* what is said of it, where more is known than the answer says; or null */
   raf_span option;      /* for which that line is not read, or of no bytes */
   const char *message;  /* the path of what an SSH signature is asked of, or null */
   raf_blob certificate; /* what is shown, or of no bytes */
@@ -22,15 +22,14 @@ typedef struct {
   uint64_t unix_timestamp;
   uint32_t known_by; /* RAF_BY_.., of a host that shows a certificate and is known */
   bool is_key;     /* a key stands there, where a certificate is wanted */
-  bool is_login;   /* of whoever signs: nobody has */
   bool is_verdict; /* `refused` is said of what is */
   bool has_art;    /* a key is drawn, too */
   bool is_json;
 } report;
 
-/* Says that it is valid; and to what a grant lets in. */
+/* Says that it is valid; and to what a grant lets in, if the client signs. */
 void report_valid(const report *of);
-void report_grant(const report *of, const raf_grant *grant, const uint8_t *buffer);
+void report_grant(report *of, const raf_grant *grant, const uint8_t *buffer);
 
 /* Says that it is refused, and why. */
 void report_refused(const report *of, uint32_t answer);

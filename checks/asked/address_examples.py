@@ -1,6 +1,6 @@
 #!/usr/bin/env python3
 """Draws every fiftieth of the questions of checks/asked/addresses, which OpenSSH's own code answered, into worked examples that the
-prover evaluates: crates/sshkey_addresses/specs/AskedExamples.antt. What OpenSSH refuses is not let in; what it lets in is not
+prover evaluates: crates/sshkey_matching/specs/AskedExamples.antt. What OpenSSH refuses is not let in; what it lets in is not
 answered "no", and not refused at all where Python reads each piece as a network.
 
     checks/asked/address_examples.py [--check]
@@ -11,15 +11,15 @@ import os
 import sys
 
 HERE = os.path.dirname(os.path.realpath(__file__))
-FILE = os.path.join(HERE, "../../crates/sshkey_addresses/specs/AskedExamples.antt")
+FILE = os.path.join(HERE, "../../crates/sshkey_matching/specs/AskedExamples.antt")
 STEP = 50
 HEAD = """-- Every fiftieth of the questions that OpenSSH's own code answered (checks/asked/addresses), as
 -- checks/asked/address_examples.py draws them.
 use Rattle.std.specs.Prelude.{ℕ, List, [], ◌∷◌, Bool, true, false, Option, Some, None, option_map, Ok, codes}
 use Rattle.std.specs.List.{All}
 use Rattle.std.specs.declared.net.ip_addr.IpAddr.TheVariants.{V4, V6}
-use Rattle.sshkey_addresses.specs.Examples.{AllComeFrom, NoneComeFrom, Source, lent}
-use Rattle.sshkey_addresses.specs.FromLists.{DecidesFrom}
+use Rattle.sshkey_matching.specs.AddressExamples.{AllComeFrom, NoneComeFrom, Source, lent}
+use Rattle.sshkey_matching.specs.FromLists.{DecidesFrom}
 
 -- a list, a host's name if there is one, and the text of a client's address
 abbrev pub Question : Type 0

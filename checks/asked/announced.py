@@ -16,8 +16,8 @@ Proved(sys.argv[1], crates, [it for it in crates if it not in sys.argv[2:]], Fal
 # a file, the line that is added to it, and what is proved then of all crates but those of callers
 CHANGES = [
     ("sshkey_model/src/lib.rt", "// a comment", ["sshkey_model"]),
-    ("agent_client/src/lib.rt", "fn changed() {}", ["sshkey_model", "agent_client"]),
-    ("agent_codec/specs/Lib.antt", "changed : ℕ", ["sshkey_model", "agent_codec", "agent_client"]),
+    ("sshkey_c/src/lib.rt", "fn changed() {}", ["sshkey_model", "sshkey_c"]),
+    ("sshkey_entry_calls/specs/Lib.antt", "changed : ℕ", ["sshkey_model", "sshkey_entry_calls", "sshkey_c"]),
 ]
 
 

@@ -26,6 +26,8 @@ them: FILES, which are revocation files, and TEXTS), numbers and names:
                                                              NUMBER ASKED
     forwards TO PORT .. as log-in                            0 0|1 0|1: whether the grant permits to open that and to listen there; or
                                                              NUMBER
+    runs COMMAND 0|1 .. as log-in                            0 COMMAND, which runs where the client asks for that one, or 0 for a
+                                                             shell; 3 where a shell runs; or NUMBER
     host-key TEXTS HOST KEY FILES PORT BITS                  0
     host-certificate TEXTS HOST BYTES FILES PORT BITS SECOND
     unreadable-line TEXT HOST PORT                           0 NUMBER, or 3

@@ -7,6 +7,8 @@
 #define NUMBERS 10
 /* of a login: the ticket among the spans, and the answers among the numbers */
 enum { TICKET = 13, ANSWERS = 9 };
+/* of a host by a held text: that text, and the places of its lines */
+enum { HELD = 4, PLACES = 5 };
 
 /* Byte strings, each in memory of its own. */
 typedef struct {
@@ -62,6 +64,9 @@ typedef struct {
 #define SEVERAL(at) it->several[at].items, it->several[at].count
 #define TEXTS(at) {it->texts[at].items, it->texts[at].count}
 #define PORT (uint16_t)it->numbers[0]
+#define HELD_LINES                                                                               \
+  BYTES(HELD), (const raf_line_place *)it->spans[PLACES].bytes,                                  \
+      it->spans[PLACES].length / sizeof(raf_line_place)
 #define BY (const raf_sha256 *)it->spans[2].bytes, it->spans[2].length / sizeof(raf_sha256)
 #define CALLS                                                                                    \
   CALL(version, )                                                                                \
@@ -107,8 +112,14 @@ typedef struct {
   CALL(may_offer, &given->login, given->ticket, (uint32_t)it->numbers[ANSWERS])                  \
   CALL(may_open, &given->grant, BYTES(0), BYTES(1), (uint32_t)it->numbers[0])                    \
   CALL(may_listen, &given->grant, BYTES(0), BYTES(1), (uint32_t)it->numbers[0])                  \
+  CALL(runs, &given->grant, BYTES(0), BYTES(1), (uint32_t)it->numbers[0], ROOM, &it->length)     \
   CALL(check_host_key, &given->host, BYTES(2))                                                   \
   CALL(check_host_certificate, &given->host, BYTES(2), (uint32_t)it->numbers[3], &it->known_by)  \
+  CALL(place_hosts, BYTES(0), (raf_line_place *)it->room.bytes,                                  \
+       it->room.length / sizeof(raf_line_place), &it->length)                                    \
+  CALL(check_held_host_key, &given->host, HELD_LINES, BYTES(2))                                  \
+  CALL(check_held_host_certificate, &given->host, HELD_LINES, BYTES(2),                          \
+       (uint32_t)it->numbers[3], &it->known_by)                                                  \
   CALL(unreadable_host_line, BYTES(0), BYTES(1), PORT, &it->length)                              \
   CALL(is_later_key_line, BYTES(0))                                                              \
   CALL(names_later_kind, BYTES(0))                                                               \
@@ -155,7 +166,8 @@ static uint32_t called(given_call *it, int filling) {
        numbers[1], numbers[2], (uint32_t)numbers[3], (uint32_t)numbers[4]},
       login_of(it),
       {{SEVERAL(0)}, DRAWN(1), {SEVERAL(3)}, numbers[2], (uint32_t)numbers[1], PORT},
-      {.permit_open = {0, it->spans[0].length}, .permit_listen = {0, it->spans[0].length}},
+      {.force_command = {numbers[2], it->spans[0].length}, .permit_open = {0, it->spans[0].length},
+       .permit_listen = {0, it->spans[0].length}, .permits = (uint32_t)numbers[1]},
       (const raf_sha256 *)it->spans[TICKET].bytes};
   size_t from = offsetof(given_call, length);
   memset((char *)it + from, filling, sizeof *it - from);

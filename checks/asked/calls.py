@@ -1,4 +1,6 @@
 """All that is asked of the library in each language: check_calls, for checks/foreign and checks/bindings."""
+from dataclasses import replace
+
 from lib.harness import string
 
 from .address_calls import check_addresses
@@ -85,6 +87,23 @@ def check_hostile(judge, is_short):
             judge.ask(f"byte strings for a {kind} of a package", [it.format(word(data)) for _, data, _ in some for it in more[kind]])
     calls = [*OF_OTHERS, *more.get("others", [])]
     judge.ask("byte strings of another kind", [it.format(word(data)) for _, data, _ in hostile[::OTHERS] for it in calls])
+    asked = [it for _, data, _ in hostile[::OTHERS] for it in logins_with(judge.made, data)]
+    said = judge.ask("logins in which byte strings stand in each place in turn", asked)
+    let_in = [it for it in zip(asked, said) if it[0].startswith("log-in ") and it[1].startswith("0 ")]
+    judge.check("and by none of these is anybody let in", not let_in, *let_in[:3])
+
+
+def logins_with(made, data):
+    """Questions about a login for which nobody has signed, by a certificate of which a text of principals has the user, with these bytes
+    in each place in turn."""
+    name, signature = b"ssh-ed25519-cert-v01@openssh.com", string(b"ssh-ed25519") + string(bytes(64))
+    login = Login(made.kinds[0].blob, algorithm=name, session=b"session", signature=signature, how=REQUEST, authorities=made.authority(), principals=(b"alice\n",))
+    asked = [replace(login, **{place: data}) for place in ("user", "algorithm", "blob", "session", "host_key", "signature", "client", "host")]
+    asked += [replace(login, keys=(b"# a comment\n", data)), replace(login, principals=(b"eve\n", data)), replace(login, revoked=(EMPTY, data))]
+    # no authority lets in before what a command wrote
+    asked.append(replace(login, principals=(), command=(b"# a comment\n", data)))
+    for it in asked:
+        yield from (it.words(), it.words("log-in-questions"), it.query())
 
 
 def validations(own):

@@ -15,17 +15,19 @@ from .certificate_calls import CASES
 from .key_calls import all_of
 from .example_calls import INVALID, SPACE, UNTOLD, VALID, armour_cases
 from .linked import VALGRIND, run, turned
-from .hosts import (
-    BROKEN, CERTIFICATES, CERTIFICATES_AND_LATER, CERTIFICATES_OF_FILES, HOST, KEYS, KEYS_AND_LATER, KEYS_OF_FILES, LATER, LATER_BLOB, LATER_NAME, TYPED, UNASKED, field,
-    in_one_file, written,
+from .host_rows import (
+    BROKEN, CERTIFICATES, CERTIFICATES_AND_LATER, CERTIFICATES_OF_FILES, FORMER, HOST, KEYS, KEYS_AND_FORMER, KEYS_AND_LATER, KEYS_OF_FILES, LATER,
+    LATER_BLOB, LATER_NAME, TYPED, UNASKED, field, in_one_file,
 )  # fmt: skip
-from .hosts import INVALID as INVALID_TIME
+from .host_rows import INVALID as INVALID_TIME
+from .hosts import written
 from .checker_answers import check_answers, is_no_call
 from .fetched import check_fetched
 from .git_checker import check_git
 from .login_checker import asked_of, certified, check_login_checker, granted, printed_with
 from .login_options import certificate, pairs_of
 from .made import MIDDLE, is_verified
+from .verdicts import LET_IN
 
 KINDS = ("ed25519", "ecdsa -b 256", "ecdsa -b 384", "ecdsa -b 521", "rsa -b 2048")
 # of how many hostile byte strings the programs for sshd are given one
@@ -243,11 +245,11 @@ def check_key_files(count, programs, maker):
     """What a comment in a file of keys holds is nothing to it, and each line that is no key is told."""
     signature = maker.write("armour.sig", armoured(maker.signature("shown0", "a text", SPACE)))
     certificate = maker.certificate("shower0", "shown0", "-n", "alice", "-V", "-5m:+60m")
-    for key, words in (("shown0", ["verify", "-n", SPACE, "-s", signature, "-k"]), ("shower0", ["--user", "alice", "--ca"])):
+    for key, words, valid in (("shown0", ["verify", "-n", SPACE, "-s", signature, "-k"], "valid"), ("shower0", ["--user", "alice", "--ca"], LET_IN)):
         line = maker.read(f"{key}.pub").encode().split()
         good = b"# keys\n\t" + b" \t".join(line[:2]) + b"\tZ\xfcrich\0\r\n"
         wrong = good + b"ssh-ed25519 AAAA\n" + good + b"\xff\n"
-        for text, wanted, told in ((good, (VALID, "valid\n"), []), (wrong, (UNTOLD, ""), ["3", "6"])):
+        for text, wanted, told in ((good, (VALID, f"{valid}\n"), []), (wrong, (UNTOLD, ""), ["3", "6"])):
             with open(maker.path("keys-of-any-bytes"), "wb") as file:
                 file.write(text)
             for program in programs:
@@ -312,10 +314,10 @@ NUMBERS = {
 
 
 def check_hosts(count, programs, maker):
-    """The rows of hosts.py about which a real ssh was asked, by several files; and which line is named where one can't be read."""
-    keys = {"key": maker.key("shown-host", "ed25519"), "other": maker.key("other-host", "ed25519"), "broken": BROKEN, **LATER}
+    """The rows of host_rows.py about which a real ssh was asked, by several files; and which line is named where one can't be read."""
+    keys = {"key": maker.key("shown-host", "ed25519"), "other": maker.key("other-host", "ed25519"), "broken": BROKEN, **LATER, **FORMER}
     keys["authority"] = maker.read("shower0.pub")
-    rows = [*in_one_file([*KEYS, *KEYS_AND_LATER]), *KEYS_OF_FILES]
+    rows = [*in_one_file([*KEYS, *KEYS_AND_LATER, *KEYS_AND_FORMER]), *KEYS_OF_FILES]
     rows = [(name, files, port, None, wanted) for name, files, port, wanted in rows]
     rows += [*in_one_file([*CERTIFICATES, *CERTIFICATES_AND_LATER]), *CERTIFICATES_OF_FILES]
     rows = [(*row, HOST) for row in rows] + [(name, [lines], port, None, wanted, host) for name, host, lines, port, wanted in TYPED]

@@ -11,6 +11,7 @@ from .example_calls import INVALID, UNTOLD, VALID
 from .linked import run
 from .login_options import certificate
 from .made import END, FIRST, MIDDLE, WINDOW
+from .verdicts import LET_IN
 
 CA = "--ca FILE --user NAME [--from ADDRESS] [--at TIME] [--revoked FILE].. [--json] [FILE]"
 HOST = "--host NAME [--port NUMBER] --known-hosts FILE.. [--at TIME] [--revoked FILE].. [--json] [FILE]"
@@ -212,7 +213,8 @@ def check_verdict_objects(count, programs, maker):
     known, text = maker.write("known", f"h {maker.read('entering.pub')}\n"), maker.write("asked", "a text")
     signature = maker.write("armour.sig", ssh_signature(maker))
     identity = {"key_id": "id", "serial": 7, "authority": by, "valid_after": FIRST, "valid_before": END}
-    good, by_line = verdict(0, "DONE", "valid"), verdict(0, "DONE", "valid, if the client signs", source="authorized_keys")
+    good = verdict(0, "DONE", "valid")
+    by_authority, by_line = (verdict(0, "DONE", LET_IN, source=it) for it in ("authority", "authorized_keys"))
     permitted = ["port forwarding", "agent forwarding", "X11 forwarding", "user rc"]
     flags = {"touch_required": True, "verification_required": True}
     over = verdict(33, "OUT_OF_WINDOW", "its time was over at 2024-02-01T00:00:00Z")
@@ -224,7 +226,7 @@ def check_verdict_objects(count, programs, maker):
 
     for name, asked, wanted in (
         ("--ca", ["--ca", ca, "--user", "alice", *at, shown],
-         {"file": shown, "line": 1, **good, "source": "authority", **identity, "command": "date", "permits": [*permitted, "tunnels"], **flags}),
+         {"file": shown, "line": 1, **by_authority, **identity, "command": "date", "permits": [*permitted, "tunnels"], **flags}),
         ("--ca, over", ["--ca", ca, "--user", "alice", "--at", str(END), shown], {"file": shown, "line": 1, **over, **identity}),
         ("login", login(lines),
          {"file": key, "line": 1, **by_line, "by_file": lines, "by_line": 2, "command": "ls", "permits": [*permitted, "tunnels"], **flags,

@@ -1,4 +1,4 @@
-"""Questions for the program deploy_keys: `ssh-keygen -Y sign` signs, and `ssh-keygen -Y verify` says under which keys that is a
+"""Questions about deploy keys, for `find_signer` of sshkey_examples: `ssh-keygen -Y sign` signs, and `ssh-keygen -Y verify` says under which keys that is a
 signature of the content in the namespace."""
 import os
 

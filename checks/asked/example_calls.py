@@ -9,10 +9,11 @@ from lib.harness import openssh
 from lib.signatures import armoured
 
 from .answers import WITHOUT_WORDS
-from .hosts import LATER
+from .host_rows import LATER
 from .linked import ABI, BINDINGS, EXAMPLES, enumerations, run
 from .revocation_calls import EMPTY, made_list
 from .stubs import OTHER_ABI, check_other_abi, stub_library
+from .verdicts import LET_IN
 
 # what is said of a line of a later kind of key
 PASSED_OVER = "a later kind of key, which is not read"
@@ -99,7 +100,7 @@ def check_certificates(count, built, maker, kind, middle):
     later = maker.write("later", f"{LATER['later']} a comment\n{maker.read(f'{kind.authority}.pub')}\n")
     ran = run([f"{built.sanitized}/sshkey-check", "--ca", later, "--user", "alice", "--at", str(middle)], input=line)
     said = (ran.returncode, ran.stdout.partition("\n")[0], ran.stderr)
-    count.check("and passes over a later kind of key", said == (VALID, "valid", f"sshkey-check: {later}:1: {PASSED_OVER}\n"), ran)
+    count.check("and passes over a later kind of key", said == (VALID, LET_IN, f"sshkey-check: {later}:1: {PASSED_OVER}\n"), ran)
 
 
 def check_module(count, built, maker, kind, middle):
@@ -110,6 +111,7 @@ def check_module(count, built, maker, kind, middle):
     for name, authorities, user, second, given, wanted in cases:
         ran = run([*words, "check", authorities, user, second], input=given)
         told = bool(ran.stdout) == (wanted != UNTOLD) and bool(ran.stderr) == (wanted == UNTOLD)
+        told = told and ({*ran.stdout.splitlines()} == {LET_IN}) == (wanted == VALID)
         count.check(f"python -m rafendilo: {name}", ran.returncode == wanted and told, ran.returncode, ran.stdout, ran.stderr[-500:])
     wanted = run(["ssh-keygen", "-lf", maker.path("user0.pub")]).stdout.split()[1]
     ran = run([*words, "fingerprint"], input=f"{maker.read('user0.pub')}\n")

@@ -1,5 +1,5 @@
-"""Ports that a login may have forwarded, by options of authorized_keys: what a real sshd does with them, for checks/logins, and what the
-packages answer, for checks/foreign."""
+"""Ports that a login may have forwarded, and what runs, by options of authorized_keys: what a real sshd does with them, for checks/logins,
+and what the packages answer, for checks/foreign."""
 import getpass
 import os
 import shlex
@@ -33,6 +33,14 @@ LISTENED = [
     ('permitlisten="127.0.0.1:38081",permitlisten="l*:38082"', "localhost", 38082, True), ('permitopen="127.0.0.1:1"', "localhost", 38081, True),
 ]  # fmt: skip
 
+# and the command that the client asks for, or none for a shell, with what runs
+RUN = [
+    ("", "echo asked", "echo asked"), ("", None, None), ('command="echo forced"', "echo asked", "echo forced"), ('command="echo forced"', None, "echo forced"),
+    ('command=""', "echo asked", ""), ('restrict,command=""', None, ""), ("restrict", "echo asked", "echo asked"), ("restrict", None, None),
+    ('no-touch-required,command="echo forced"', "echo asked", "echo forced"), ("verify-required,no-pty", None, None),
+    ('permitopen="h:1",tunnel="1",command="echo forced"', None, "echo forced"),
+]  # fmt: skip
+
 
 class Server:
     """Serves a login of the key in the folder by a line with these options."""
@@ -44,14 +52,14 @@ class Server:
         with open(f"{folder}/conf", "w", encoding="ascii") as file:
             file.write(configuration.format(folder))
 
-    def run(self, options, *words):
+    def run(self, options, *words, read=""):
         with open(f"{self.folder}/keys", "w", encoding="ascii") as file:
             file.write(f"{options} {self.fields}")
         at = shlex.quote(self.folder)
         named = [f"ProxyCommand={SSHD} -i -f {at}/conf -E {at}/log", "StrictHostKeyChecking=no", "UserKnownHostsFile=/dev/null", "BatchMode=yes"]
         named += ["IdentitiesOnly=yes", "IdentityAgent=none", "ExitOnForwardFailure=yes"]
         line = ["ssh", "-F", "none", "-T", "-i", f"{self.folder}/own", *(it for on in named for it in ("-o", on)), *words]
-        return subprocess.run(line, stdin=subprocess.DEVNULL, capture_output=True, text=True, check=False, timeout=SECONDS)
+        return subprocess.run(line, input=read, capture_output=True, text=True, check=False, timeout=SECONDS)
 
     def opens(self, options, host, port):
         """Whether sshd tries to reach the port. Nobody listens there."""
@@ -64,6 +72,12 @@ class Server:
         ran = self.run(options, "-R", f"{f'[{host}]' if host else ''}:{port}:localhost:1", f"{getpass.getuser()}@localhost", "true")
         return True if ran.returncode == 0 else False if "remote port forwarding failed" in ran.stderr else ran.stderr
 
+    def runs(self, options, asked):
+        """The command that runs, by what it writes; none where a shell does, which reads another."""
+        ran = self.run(options, f"{getpass.getuser()}@localhost", *[asked][: asked is not None], read="echo shell\n")
+        said = ran.stdout.strip()
+        return ran.stderr if ran.returncode else None if said == "shell" else f"echo {said}" if said else ""
+
 
 def forwards(folder, configuration):
     """What sshd does, one after the other, since they listen at the same ports."""
@@ -72,6 +86,9 @@ def forwards(folder, configuration):
         for options, host, port, wanted in rows:
             found = ask(options, host, port)
             count.check(f"sshd {ask.__name__} {host or 'no host'}, port {port}, by {options or 'no option'}: {wanted}", found is wanted, found)
+    for options, asked, wanted in RUN:
+        found = server.runs(options, asked)
+        count.check(f"sshd runs {wanted!r} by {options or 'no option'} where {asked or 'a shell'} is asked for", found == wanted, found)
     return count
 
 
@@ -84,9 +101,6 @@ def check_forwards(count, key, log_in):
         grant = log_in(key.encode())
         count.check(f"{name} knows no port above 65,535", [getattr(grant, name)("h", it) for it in (65535, 65536, 65536 + 80)] == [True, False, False])
         count.check(f"{name} of bytes that are no text is no", not getattr(grant, name)(b"\xff", 80))
-    for options, asked, wanted in (
-        ("", "ls", "ls"), ("", None, None), ('command="date"', "ls", "date"), ('command="date"', None, "date"), ('command=""', "ls", ""),
-        ('restrict,command=""', None, ""),
-    ):  # fmt: skip
+    for options, asked, wanted in RUN:
         found = log_in(f"{options} {key}".strip().encode()).runs(asked)
         count.check(f"what runs by {options or 'no option'} where {asked or 'a shell'} is asked for", found == wanted, found)

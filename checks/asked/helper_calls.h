@@ -32,6 +32,44 @@ static void say_asked_for(uint32_t unverified, uint32_t answer) {
   printf(" and %zu verifications after %" PRIu32, verifications, unverified);
 }
 
+/* Has a call by a held text be given the places of its lines, if it is given none. */
+static void add_places(given_call *it, const char *name) {
+  raf_blob held = it->spans[HELD];
+  raf_line_place none = {0, 0};
+  size_t count = 0;
+  if (it->spans[PLACES].length || strncmp(name, "check_held", 10)) return;
+  raf_place_hosts(held.bytes, held.length, &none, 0, &count);
+  free(it->spans[PLACES].bytes);
+  it->spans[PLACES] = made(count * sizeof none);
+  raf_place_hosts(held.bytes, held.length, (raf_line_place *)it->spans[PLACES].bytes, count,
+                  &count);
+}
+
+/* Has the texts be held, as one, and says where the call then answers something else. */
+static void say_held(given_call *it, const char *name, uint32_t answer) {
+  given_spans *texts = &it->several[0];
+  size_t length = 0;
+  for (size_t at = 0; at < texts->count; at++) length += texts->items[at].length + 1;
+  raf_blob held = made(length);
+  for (length = 0; texts->count; free((void *)texts->items[texts->count].bytes)) {
+    raf_span text = texts->items[--texts->count];
+    memcpy(held.bytes + length, text.bytes, text.length);
+    length += text.length;
+    held.bytes[length++] = '\n';
+  }
+  free(it->spans[HELD].bytes);
+  it->spans[HELD] = held;
+  add_places(it, name);
+  uint32_t by_held = ask(it, name, NULL);
+  if (by_held != answer) printf("held: %" PRIu32 " ", by_held);
+}
+
+static void ask_host_key(given_call *it, const char *name) {
+  uint32_t answer = ask(it, name, NULL);
+  say_held(it, "check_held_host_key", answer);
+  printf("%" PRIu32, answer);
+}
+
 static void ask_host_certificate(given_call *it, const char *name) {
   const uint64_t *numbers = it->numbers;
   raf_host_login login = {{it->several[0].items, it->several[0].count},
@@ -45,6 +83,7 @@ static void ask_host_certificate(given_call *it, const char *name) {
   say_asked_for(unverified, answer);
   printf("%" PRIu32, answer);
   if (answer == RAF_DONE || known_by) printf(" %" PRIu32, known_by);
+  say_held(it, "check_held_host_certificate", unverified);
 }
 
 /* ---- who signed a file */

@@ -1,14 +1,16 @@
 """Whether a key or a certificate is a host's: the library's verdicts, with a verifier of each language between the two of a
-certificate. The rows are those of hosts.py, about which checks/callers asks a real ssh, and what is wanted is what is wanted there."""
+certificate. The rows are those of host_rows.py, about which checks/callers asks a real ssh, and what is wanted is what is wanted there."""
 import time
 from dataclasses import dataclass, replace
 
 from lib.harness import blob_of, string
 
-from .hosts import (
-    AROUND_NOW, AUTHORITY, BROKEN, BY_KEY, CAPITALS, CERTIFICATES, CERTIFICATES_AND_LATER, CERTIFICATES_OF_FILES, CERTIFIED_KEYS, HOST, INVALID, KEY_ID, KEYS, KEYS_AND_LATER, KEYS_OF_FILES,
-    LATER, LISTED, LISTS, NAMED, NOBODY, OTHER, OWN, SERIAL, TEXTS, TYPED, TYPED_CERTIFICATES, UNASKED, field, in_one_file, written,
+from .host_rows import (
+    AROUND_NOW, AUTHORITY, BROKEN, BY_KEY, CAPITALS, CERTIFICATES, CERTIFICATES_AND_LATER, CERTIFICATES_OF_FILES, CERTIFIED_KEYS, HOST, INVALID, KEYS,
+    KEYS_AND_LATER, KEYS_OF_FILES, KEY_ID, LATER, LISTED, LISTS, NAMED, NOBODY, OTHER, OWN, SERIAL, TEXTS, TYPED, TYPED_CERTIFICATES, UNASKED, field,
+    in_one_file,
 )  # fmt: skip
+from .hosts import written
 from .linked import several, word
 from .login_options import NO_NORMAL_FORM, RSA, UNACCEPTED, certificate, certificate_by, judged_keys, no_signature, respelled
 from .revocation_calls import EMPTY, made_list

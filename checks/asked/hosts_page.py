@@ -11,13 +11,14 @@ import subprocess
 from lib.harness import ROOT
 
 from .linked import run
+from .verdicts import LET_IN
 
 PAGE, MARK = "docs/HOSTS.md", "status of that:"
 # what each block of commands prints, among the rest, and its status
 WANTED = [
-    ("at your desk", "", 0), ("at your desk", "valid\n", 0), ("at your desk", "alice,bob by SHA256:", 0), ("as alice", "alice\n", 0),
+    ("at your desk", "", 0), ("at your desk", f"{LET_IN}\n", 0), ("at your desk", "alice,bob by SHA256:", 0), ("as alice", "alice\n", 0),
     ("at your desk", "", 0), ("at your desk", "revoked (56)\nrefused\nalice is out\n", 0), ("at your desk", "", 0), ("on the host", "", 0),
-    ("at your desk", "valid, if the client signs\n", 0),
+    ("at your desk", f"{LET_IN}\n", 0),
 ]  # fmt: skip
 NAMED, NOW, AUTHORITIES, KEYS, LIST = "-n alice", "-V +1d", "/etc/ssh/authorities", "/etc/ssh/authorities.pub", "/etc/ssh/revoked"
 # of each message in the last tables: whom alice would be, what ssh-keygen is told of her certificate, what is wrong on the host, and how

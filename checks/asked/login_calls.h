@@ -140,23 +140,39 @@ static void ask_forwards(given_call *it, raf_span host, uint32_t port) {
   printf(" %d %d", opened == RAF_DONE, listened == RAF_DONE);
 }
 
+/* What runs by the grant: a command, or a shell. */
+static void ask_runs(given_call *it, raf_span asked, uint32_t asks_command) {
+  uint32_t answer = decide_login(it, "log_in_questions", "log_in");
+  raf_blob room = made(it->grant.length + asked.length);
+  size_t length = 0;
+  if (answer == RAF_DONE)
+    answer = raf_runs(&it->grant, it->room.bytes, it->grant.length, asked.bytes, asked.length,
+                      asks_command, room.bytes, room.length, &length);
+  if (is_done(answer)) say_part(" ", room, (raf_part){0, length});
+  free(room.bytes);
+}
+
 /* Answers a question about a login; false where it is none. */
 static bool has_answered_login(char **words) {
   const char *what = words[0];
-  bool is_forwards = !strcmp(what, "forwards"), is_offer = !strcmp(what, "may-offer");
-  bool is_asked = !strcmp(what, "log-in-questions");
-  if (!is_forwards && !is_offer && !is_asked && strcmp(what, "log-in")) return false;
-  given_call it = given_login(words + (is_forwards ? 3 : 1), !is_offer);
-  raf_blob host = bytes_of(is_forwards ? words[1] : "-");
+  bool is_forwards = !strcmp(what, "forwards"), is_runs = !strcmp(what, "runs");
+  bool is_offer = !strcmp(what, "may-offer"), is_asked = !strcmp(what, "log-in-questions");
+  bool is_granted = is_forwards || is_runs;
+  if (!is_granted && !is_offer && !is_asked && strcmp(what, "log-in")) return false;
+  given_call it = given_login(words + (is_granted ? 3 : 1), !is_offer);
+  raf_blob asked = bytes_of(is_granted ? words[1] : "-");
+  uint32_t number = is_granted ? (uint32_t)strtoull(words[2], NULL, 10) : 0;
   if (is_forwards)
-    ask_forwards(&it, raf_blob_span(host), (uint32_t)strtoull(words[2], NULL, 10));
+    ask_forwards(&it, raf_blob_span(asked), number);
+  else if (is_runs)
+    ask_runs(&it, raf_blob_span(asked), number);
   else if (is_offer)
     ask_may_offer(&it, "may_offer");
   else if (is_asked)
     ask_log_in_questions(&it, "log_in");
   else
     ask_log_in(&it, "log_in");
-  free(host.bytes);
+  free(asked.bytes);
   let_go(&it);
   return true;
 }

@@ -10,6 +10,7 @@ from .checker_answers import is_no_call
 from .example_calls import INVALID, UNTOLD, VALID
 from .linked import VALGRIND, run
 from .made import MIDDLE, WINDOW
+from .verdicts import LET_IN
 
 ADDRESS, FUTURE = "192.0.2.7", 'expiry-time="20240201Z"'
 PERMITTED = ["any command", "pty", "port forwarding", "agent forwarding", "X11 forwarding", "user rc", "tunnels"]
@@ -41,9 +42,8 @@ def certified(*more, command=None, permits=PERMITTED, serial=7):
 def printed_with(said, signer, lines=None):
     """What the program prints where that is said of a certificate by the key of that file, or, without one, of a key; with lines, of a login
     by that file."""
-    verdict = "valid" if lines is None else "valid, if the client signs"
     by = [f"Signing CA: {ssh_keygen('-l', '-f', signer, text=True).stdout.split()[1]}"] if signer else []
-    return "".join(f"{it}\n" for it in [verdict, *(f"        {it.replace(LINES, lines or '')}" for it in [*said, *by])])
+    return "".join(f"{it}\n" for it in [LET_IN, *(f"        {it.replace(LINES, lines or '')}" for it in [*said, *by])])
 
 
 # lines of authorized_keys, or with --authorities of principals, the words of the certificate that is shown or None for the key itself, what else is asked, and what is said:

@@ -183,29 +183,29 @@ def read_as(maker, line, status, wanted):
 def judged(maker, user, authority, told_of_certificate):
     """The same by keys of each kind and size, and by certificates that do not stand as they were signed."""
 
-    def case(name, key, line, answer, by=authority, signed_line=None, before=""):
-        asked = ["login", user, str(int(time.time())), key, line, maker.fingerprint(by)]
+    def case(name, line, answer, by=authority, signed_line=None, before=""):
+        asked = ["login", user, str(int(time.time())), line, maker.fingerprint(by)]
         return f"login by {name}", [told_of_certificate(signed_line or line)], before + "\t".join(asked), answer
 
     for name, held, is_accepted, status in judged_keys(maker):
         line = certificate(maker, authority, held, string(user.encode()), {}, {})
-        yield case(name, held, line, read_as(maker, line, status, "ok touch-required" if is_accepted else UNACCEPTED))
+        yield case(name, line, read_as(maker, line, status, "ok touch-required" if is_accepted else UNACCEPTED))
     for bits, wanted in ((0, "ok touch-required"), (2047, "ok touch-required"), (2048, UNACCEPTED), (2**32 - 1, UNACCEPTED)):
         held = key_line(b"ssh-rsa", mpint(3), of_bits(2047))
         line = certificate(maker, authority, held, string(user.encode()), {}, {})
-        yield case(f"an RSA key of 2047 bits, of {bits} at least", held, line, wanted, before=f"bits\t{bits}\t")
+        yield case(f"an RSA key of 2047 bits, of {bits} at least", line, wanted, before=f"bits\t{bits}\t")
     key, flag = maker.read("user.pub"), {"permit-pty": b""}
     signed_line = certificate(maker, RSA, key, string(user.encode()), {}, flag)
     for name, line in respelled(maker, signed_line, RSA, flag):
-        yield case(f"a certificate with {name}", key, line, read_as(maker, line, 1, NO_NORMAL_FORM), RSA, signed_line)
+        yield case(f"a certificate with {name}", line, read_as(maker, line, 1, NO_NORMAL_FORM), RSA, signed_line)
 
 
 def login_options(maker, sshd, user, authority, told_of_certificate):
     """Names, lines and answers: the configuration that trusts the authority stands in the folder."""
     trusted = maker.fingerprint(authority)
 
-    def question(name, key, line, answer):
-        asked = ["login", user, str(int(time.time())), key, line, trusted]
+    def question(name, line, answer):
+        asked = ["login", user, str(int(time.time())), line, trusted]
         return f"login of sshd: {name}", [told_of_certificate(line)], "\t".join(asked), answer
 
     key = maker.read("user.pub")
@@ -213,20 +213,20 @@ def login_options(maker, sshd, user, authority, told_of_certificate):
         line = certificate(maker, authority, key, string(user.encode()), critical, extensions)
         log = said(maker, sshd, user, "user", line)
         is_same = says in log and (says == LET_IN) == (LET_IN in log)
-        yield question(name, key, line, compared(wanted, log, is_same))
+        yield question(name, line, compared(wanted, log, is_same))
     for name, key_id, others, wanted, status in TEXTS:
         users = b"".join(map(string, [*others, user.encode()]))
         line = certificate(maker, authority, key, users, {}, {}, key_id)
-        yield question(name, key, line, read_as(maker, line, status, wanted))
+        yield question(name, line, read_as(maker, line, status, wanted))
     for kind in ("Ed25519", "ECDSA P-256"):
         for name, application, wanted, status in APPLICATIONS:
             held = SecurityKey(kind, application).line()
             line = certificate(maker, authority, held, string(user.encode()), {}, {})
-            yield question(f"{name} ({kind})", held, line, read_as(maker, line, status, wanted))
+            yield question(f"{name} ({kind})", line, read_as(maker, line, status, wanted))
     yield from judged(maker, user, authority, told_of_certificate)
     # sshd knows no such user, whom a certificate may list
     line = certificate(maker, authority, key, string(b""), {}, {})
-    asked = "\t".join(["login", "", str(int(time.time())), key, line, trusted])
+    asked = "\t".join(["login", "", str(int(time.time())), line, trusted])
     yield "login of a user without a name", [told_of_certificate(line)], asked, PRINCIPALS
     for kind in ("Ed25519", "ECDSA P-256"):
         yield from (question(*it) for it in by_device(maker, sshd, user, authority, kind))
@@ -245,4 +245,4 @@ def by_device(maker, sshd, user, authority, kind):
         agent.server_close()
         asks = TOUCHED * (" touch-required" in wanted) | VERIFIED * (" verify-required" in wanted)
         is_met = flags & asks == asks
-        yield f"by a security key ({kind}), {name}", device.line(), line, compared(wanted, log, (LET_IN in log) == is_met)
+        yield f"by a security key ({kind}), {name}", line, compared(wanted, log, (LET_IN in log) == is_met)

@@ -33,7 +33,7 @@ def login_revocations(maker, user, lets_in, told_of_certificate):
     told, trusted = [told_of_certificate(line)], maker.fingerprint(OWN)
 
     def asked(*lists, by=trusted, question="login"):
-        return "\t".join([question, user, str(int(time.time())), maker.read("user.pub"), line, by, *(it.hex() for it in lists)])
+        return "\t".join([question, user, str(int(time.time())), line, by, *(it.hex() for it in lists)])
 
     def said(path, answer):
         """The answer that is wanted, or what OpenSSH says of the list instead."""

@@ -3,11 +3,12 @@ over values of each kind and over bytes that are none, and each room that is too
 says so take no memory."""
 import hashlib
 import re
+import struct
 from dataclasses import replace
 
 from lib.harness import blob_of, ssh_keygen, string
 
-from .hosts import LATER, LATER_NAME
+from .host_rows import LATER, LATER_NAME
 from .key_calls import all_of, encoded, keys_of, renamed, signed_by
 from .linked import ABI, VERSION, data_of, declared, header, several, word
 from .publickey import REQUEST, SSHD, UNREADABLE, Login
@@ -24,10 +25,12 @@ ROOMS = {call for call, given in re.findall(r"^uint32_t raf_(\w+)\(([^;]*)\);", 
 OF_VALUES = {"certificate_normal", "signature_question", "key_normal", "fingerprint_sha512", "check_unrevoked_key_by_krl", "check_unrevoked_certificate_by_krl"}
 OF_OTHER_NAMES = {"key_normal", "fingerprint_sha512", "check_unrevoked_key_by_krl"}
 OTHER_NAME = "rsa-sha2-256"
+# those that take it only where the names of user and host are texts, as the header says
+OF_TEXTS = {"log_in_questions", "log_in", "may_offer_questions", "may_offer"}
 # those that do without the memory that they ask for, as the header says, where no authority's key is under another name
 DOING_WITHOUT = {"check_certificate", "check_certificate_for"}
 # those that need no more of it where a revocation file decides: revoked, or not read
-DECIDED = {("check_host_key", 50), ("check_host_key", 58), ("check_host_certificate", 50), ("check_host_certificate", 58)}
+DECIDED = {(f"check_{held}host_{what}", status) for held in ("", "held_") for what in ("key", "certificate") for status in (50, 58)}
 
 
 def of_certificate(blob, authority, second, key):
@@ -121,7 +124,18 @@ def of_hosts(maker, second):
     ):  # fmt: skip
         yield "check_host_key", [texts, b"host", own, files], [port, 0], of_key
         yield "check_host_certificate", [texts, b"host", certificate, files], [port, 0, second, 1], of_certificate_
+        held = b"\n".join(texts)
+        yield "check_held_host_key", [[], b"host", own, files, held], [port, 0], of_key
+        yield "check_held_host_certificate", [[], b"host", certificate, files, held], [port, 0, second, 1], of_certificate_
     yield "check_host_key", [[hashed], b"host", other, [EMPTY]], [22, 0], "HOST_CHANGED"
+    # a text that is held beside one that revokes, and places that are those of another text
+    yield "check_held_host_key", [[revoked], b"host", own, [EMPTY], hashed], [22, 0], "HOST_REVOKED"
+    for length in (0, len(hashed) - 1, len(hashed) + 1, 2**64 - 1):
+        places = struct.pack("<QQ", length, 2**64 - 1)
+        yield "check_held_host_key", [[], b"host", own, [EMPTY], hashed, places], [22, 0], "HOST_UNREADABLE"
+        yield "check_held_host_certificate", [[], b"host", certificate, [EMPTY], hashed, places], [22, 0, second, 1], "HOST_UNREADABLE"
+    for text, wanted in ((b"", "DONE"), (hashed, "SHORT_BUFFER")):
+        yield "place_hosts", [text], [], wanted
     yield "check_host_key", [[hashed], b"host", own[:-1], [EMPTY]], [22, 0], "LENGTH"
     yield "check_host_certificate", [[authority], b"host", certificate, [EMPTY]], [22, 0, second, 0], "NOT_SIGNED"
     yield "check_host_certificate", [[authority], b"other", certificate, [EMPTY]], [22, 0, second, 1], "UNLISTED_PRINCIPAL"
@@ -234,6 +248,11 @@ def of_files(maker, key):
     ):  # fmt: skip
         yield "may_open", [given, host], [port], wanted
         yield "may_listen", [given, host], [port], wanted
+    for forced, asks, permits, start, wanted in (
+        (b"date", 1, 0, 0, "DONE"), (b"date", 0, 0, 0, "DONE"), (b"date", 1, 64 + 512, 0, "DONE"), (b"", 1, 32, 0, "DONE"), (b"", 0, 32 + 64, 0, "END"), (b"", 1, 0, 0, "DONE"),
+        (b"date", 1, 0, 1, "DONE"), (b"date", 0, 0, 2**64 - 1, "DONE"),
+    ):  # fmt: skip
+        yield "runs", [forced, b"ls"], [asks, permits, start], wanted
     for text, wanted in ((b"20270101Z", "DONE"), (b"20270101", "DONE"), (b"2027", "FORMAT"), (b"\xff", "TEXT")):
         yield "read_time", [text], [], wanted
     for text, wanted in ((b"h:22", "DONE"), (b"[::1]", "DONE"), (b"h:", "FORMAT"), (b"\xff", "TEXT")):
@@ -323,8 +342,11 @@ def question_of(what, call, spans, numbers, *more):
     return " ".join([what, call, *words, *map(str, more)])
 
 
-def asks_nothing(call, spans, numbers):
-    """Whether it asks for questions of a login that has none: of a plain key, whose signature somebody else has verified."""
+def writes_nothing(call, spans, numbers):
+    """Whether it asks for questions of a login that has none: of a plain key, whose signature somebody else has verified. Or for what
+    runs where a command is forced that has no bytes, or is not where the grant says."""
+    if call == "runs":
+        return not numbers[1] & 32 and (numbers[2] > 0 or not spans[0])
     is_signed = call == "log_in_questions" and numbers[0] == str(REQUEST)
     return call in ("log_in_questions", "may_offer_questions") and not is_signed and b"-cert-v01@".hex() not in spans[2]
 
@@ -336,7 +358,7 @@ def questions(rafendilo, asked):
             yield call, question_of("memory", call, spans, numbers, 0), rafendilo.Status[wanted] if isinstance(wanted, str) else wanted
             continue
         yield call, question_of("memory", call, spans, numbers, 2 * sum(map(len, spans)) + 4608), rafendilo.Status[wanted]
-        if wanted == "DONE" and not asks_nothing(call, spans, numbers):
+        if wanted == "DONE" and not writes_nothing(call, spans, numbers):
             yield call, question_of("memory", call, spans, numbers, 1), rafendilo.Status.SHORT_BUFFER
 
 
@@ -388,8 +410,8 @@ def check_memory(judge):
 
 def takes_early(call, question, wanted, answer):
     """Whether a call takes memory of which the header says otherwise."""
-    is_value, other = wanted in (0, 2, 56), string(OTHER_NAME.encode()).hex() in question
-    return answer.split()[1] != "0" and (call in OF_VALUES and not is_value or call in OF_OTHER_NAMES and not other)
+    may = wanted in (0, 2, 56) if call in OF_VALUES else wanted != 4 if call in OF_TEXTS else True
+    return answer.split()[1] != "0" and not (may and (call not in OF_OTHER_NAMES or string(OTHER_NAME.encode()).hex() in question))
 
 
 def is_kept(call, wanted, answer):

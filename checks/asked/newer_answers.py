@@ -7,7 +7,8 @@ import subprocess
 
 from lib.harness import ROOT, SSHD
 
-from .hosts import BY_KEY, CERTIFICATES_AND_LATER, HOST, KEYS_AND_LATER, LATER, LATER_NAME, field, knows, salted
+from .host_rows import BY_KEY, CERTIFICATES_AND_LATER, HOST, KEYS_AND_LATER, LATER, LATER_NAME, field, salted
+from .hosts import knows
 from .linked import run
 from .principals import CONFIGURATION, logs_in
 from .signers import NAMESPACE, NO, NOON, OK, WHO, ZONELESS, ZONES, made_by, says

@@ -5,7 +5,7 @@ import hashlib
 from lib.harness import blob_of
 
 from .host_calls import NUMBERED, Shown, answer_to
-from .hosts import BY_KEY, HOST, KEYS_AND_LATER, field
+from .host_rows import BY_KEY, HOST, KEYS_AND_LATER, field
 from .linked import word
 from .newer_answers import HOST_CERTIFICATES, MESSAGE, SIGNERS, UNREAD, Stored, filled
 from .revocation_calls import EMPTY

@@ -6,6 +6,7 @@ import shutil
 
 from .linked import run
 from .made import Maker
+from .verdicts import LET_IN
 
 # Debian's, whose packages for Python do not depend on what a user has installed
 PYTHON = "/usr/bin/python3"
@@ -177,7 +178,7 @@ class Place:
 
     def hold_check(self, *words, **names):
         """The program that the words run with a user's name lets the user of the certificate in, and no other."""
-        for user, wanted in ((USER, (0, "valid")), ("eve", (1, "refused"))):
+        for user, wanted in ((USER, (0, LET_IN)), ("eve", (1, "refused"))):
             ran = run([*words, user], cwd=self.folder, env={**self.environment, **names}, input=f"{self.certificate}\n")
             if (ran.returncode, ran.stdout.partition("\n")[0].partition(":")[0]) != wanted:
                 raise Wrong(f"{' '.join(words)} {user}: {ran.returncode}, {ran.stdout!r}", ran.stderr)

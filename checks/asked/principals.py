@@ -8,7 +8,7 @@ from concurrent.futures import ThreadPoolExecutor
 
 from lib.harness import SSHD, line_of, openssh
 
-from .hosts import LATER
+from .host_rows import LATER
 from .linked import run
 from .option_lists import Logins as OverTCP
 from .revocation_calls import made_list

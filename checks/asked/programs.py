@@ -16,7 +16,7 @@ from dataclasses import dataclass
 from lib.signatures import armoured
 
 from .example_calls import SPACE, UNTOLD, VALID, armour_cases, certificate_cases
-from .hosts import LATER
+from .host_rows import LATER
 from .linked import run
 from .verdicts import said
 

@@ -136,8 +136,14 @@ def questions_of(material, it, session=SESSION):
     return authority, told_of(key, request.message(blob, session, user, host), request.signature)
 
 
+def spelled(question):
+    """The question as a word of the program callers."""
+    algorithm, key, *more = question.split(" ") if question != "-" else ("", "")
+    return ",".join([algorithm, line_of(bytes.fromhex(key)), *more]) if more else "-"
+
+
 def asked_here(material, it, session=SESSION):
-    """The question as the program of callers reads it, about a session."""
+    """The question as the program callers reads it, about a session."""
     request = material.requests[it.request]
     blob, user = blob_of(material.shown[request.offered].line), request.user.partition(":")[0]
     host = blob_of(material.hosts[0]) if material.host_key(request) else b""
@@ -145,11 +151,11 @@ def asked_here(material, it, session=SESSION):
     seen = {REQUEST: "request", TRANSPORT: "transport", SSHD_ASKS: "sshd", WITH_FLAGS: str(request.flags or 0)}[it.seen]
     assert client != "-" or seen in ("request", "sshd"), "somebody else has verified what is no signature"
     algorithm = request.algorithm.encode().hex() if it.is_named else "-"
-    trusted = ",".join(fingerprint(blob_of(line)) for line in it.authorities) or "-"
+    trusted = " ".join(fingerprint(blob_of(line)) for line in it.authorities)
     words = [digits(user), algorithm, blob.hex(), seen, session.hex(), host.hex() or "-", request.signature.hex(), of_texts(it.keys), trusted]
     words += ["certificate" if it.principals is None else of_texts(it.principals), of_texts([] if it.command is None else [it.command])]
     words += [(it.revoked or b"").hex(), str(it.bits), "t" * bool(it.options & TOUCH) + "v" * bool(it.options & VERIFY), str(it.second)]
-    return "\t".join(["publickey", *words, it.address, it.host or "", authority, client])
+    return "\t".join(["publickey", *words, it.address, it.host or "", spelled(authority), spelled(client)])
 
 
 def has_small_rsa(material, it):

@@ -21,7 +21,7 @@ from lib.harness import string, take
 
 from .certificate_calls import CASES, certificate_of
 from .forwards import check_forwards
-from .hosts import LATER, LATER_NAME
+from .host_rows import LATER, LATER_NAME
 from .made import MIDDLE
 from .verdicts import status_of
 

@@ -8,7 +8,7 @@ from concurrent.futures import ThreadPoolExecutor
 from lib.asking import of_table, share
 from lib.harness import blob_of, new_key, openssh, reads_dsa, ssh_keygen, string, take
 
-from .hosts import LATER, LATER_NAME
+from .host_rows import LATER, LATER_NAME
 
 # how many files are changed, and how often each answer has to come
 CHANGED, LEAST = 160, 60
@@ -25,6 +25,7 @@ BY_HAND = [
     "{private}\n", "{large}\n", "{greatest}\n", "{greatest}\n{key}\n", "{negative}\n", "{negative_exponent}\n", "{negative_dsa}\n",
     "{compressed}\n", "{held_compressed}\n", "{held}\n", "{zero_byte}\n", "{held_zero_byte}\n", "{by_private}\n", "{by_small}\n",
     "{by_point}\n", "{zero_in_id}\n", "{zero_in_name}\n", "{many_principals}\n", "{p256}\n", "{rsa}\n{key}\n", "SSHKRL\n", "SSHKRL", "{key}\n#", "{key}\n #\n", "{key}\n\f\n", "{key}\n\v{other}\n", "\ufeff{key}\n",
+    "{key}\r\r\n", "{other}\n{key}\v\f\r x\n", "{certificate}\f\r", "{key}\rx\n", "{later}\r\rx\n",
     "# gr\udcf6\udcdfe\n{key}\n", "{key} gr\udcf6\udcdfe\n", "{other} \udcff\n{key}\n", "{other}\t\udcff\n", "{certificate} \udcff\n", "\udcff\n", "\udcff{key}\n",
     "{later}\nx\n", "{later_short}\n", "{later_long}\n", "{later_trailing}\n", "{later_cut}\n", "{later_name}\n", "{later_named}\n", "{misnamed}\n",
     "{name}\udcff {word}\n", "{name} {word}\udcff\n", "{name} \udcff\n", "{other} \udcff\nx\n", "{key}\n{name} {word}\udcff\n",

@@ -14,7 +14,7 @@ from lib.signatures import mpint, signed_data, ssh_signature
 from .key_calls import question_of
 from .linked import turned, word
 from .made import MIDDLE, WINDOW, is_verified
-from .verdicts import said, said_by_checker, said_by_python, status_of
+from .verdicts import LET_IN, said, said_by_checker, said_by_python, status_of
 
 TOUCHED, VERIFIED = 1, 4
 COUNTER = 5
@@ -181,7 +181,7 @@ def check_made(judges, key, middle):
     line = line_of(made)
     found = judges.of_certificates([line], key.line(), "alice", middle)
     taken = judges.is_taken([line])
-    same = found == (["valid"],) * 2 and taken == [True]
+    same = found == ([LET_IN],) * 2 and taken == [True]
     judges.count.check(f"a certificate that is made for a security key of {key.kind}", same, found, taken)
 
 
@@ -204,9 +204,9 @@ def check_window(judges, key, certificate, window):
 def check_turned_certificate(judges, key, certificate, middle):
     lines = [line_of(it) for it in turned(certificate)]
     by_c, by_python = judges.of_certificates(lines, key.line(), "alice", middle)
-    none = len(by_c) == len(lines) and "valid" not in by_c
+    none = len(by_c) == len(lines) and LET_IN not in by_c
     name = f"a certificate by a security key of {key.kind}, the lowest bit of each of {len(lines)} bytes turned"
-    judges.count.check(f"{name}: none is valid", none, *[it for it in by_c if it == "valid"][:1])
+    judges.count.check(f"{name}: none is valid", none, *[it for it in by_c if it == LET_IN][:1])
     judges.count.check(f"{name}: C and Python say the same", by_c == by_python)
     # the flags, the counter and the signature stand at the end
     taken = judges.is_taken([*lines[:-80:SAMPLED], *lines[-80:]])
@@ -225,7 +225,7 @@ def check_subject(judges, key, window):
     certificate, authority = blob_of(line), maker.read("authority0.pub")
     by_c, by_python = judges.of_certificates([line], authority, "alice", middle)
     listed = judges.judge.ask("certificates of a security key", [f"lists {certificate.hex()}"])[0].split(" ")
-    valid = by_c == by_python == ["valid"] and judges.is_taken([line]) == [True]
+    valid = by_c == by_python == [LET_IN] and judges.is_taken([line]) == [True]
     whole = listed[2] == key.blob().hex() and judges.rafendilo.certificate_contents(certificate).key == key.blob()
     judges.count.check(f"a certificate of a security key of {key.kind} is valid, and has the key", valid and whole, by_c, listed)
     signed = signed_data(b"file", b"", b"sha512", b"text")

@@ -37,5 +37,5 @@ def short_logins(maker, me, lets_in, to_be_signed):
         line = f"{front} {base64.b64encode(message + string(blob)).decode()}"
         with open(maker.path("user-cert.pub"), "w", encoding="ascii") as file:
             file.write(f"{line}\n")
-        asked = "\t".join(["login", me, str(now), key, line, maker.fingerprint(authority)])
+        asked = "\t".join(["login", me, str(now), line, maker.fingerprint(authority)])
         yield f"login of sshd: a signature by RSA {name}", [verified], asked, lets_in(maker, me)

@@ -44,7 +44,7 @@ def check_stub(count, asker, made, number):
         f"normal certificate {blob}", f"normal sshsig {key}", f"normal signature {key}", f"join {blob} {key}", f"entry {name}",
         f"host {name}", f"options {name}", f"draft {key} 00 {name} - - - {key} 0 0 9 1 1",
         f"make {key} 00 {name} - - - {key} 0 0 9 1 1 {key}", login.words(),
-        login.words("log-in-questions"), login.query(), login.words("forwards", name, "22"), f"host-key {name} {name} {key} - 22 0", f"host-certificate {name} {name} {blob} - 22 0 7", f"unreadable-line {name} {name} 22",
+        login.words("log-in-questions"), login.query(), login.words("forwards", name, "22"), login.words("runs", name, "1"), f"host-key {name} {name} {key} - 22 0", f"host-certificate {name} {name} {blob} - 22 0 7", f"unreadable-line {name} {name} 22",
         f"other-key-line {name}", f"time {name}", f"may-verify {key}", f"for-key {name} {key}", f"for-certificate {name} {blob}",
         f"unrevoked-key-by-krl {key} {key}", f"unrevoked-certificate-by-krl {key} {blob}", f"signer {name} {name} {name} {key} - 7 1",
         f"unrevoked-key {key} {key}", f"unrevoked-certificate {key} {blob}", f"is-signer {name} {name} {name} {key} - 7 {by}",

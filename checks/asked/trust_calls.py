@@ -6,7 +6,7 @@ from cryptography.hazmat.primitives.asymmetric import ec
 from lib.harness import blob_of, line_of, ssh_keygen, string
 from lib.signatures import mpint
 
-from .hosts import LATER
+from .host_rows import LATER
 from .issued_keys import CURVES, FORMS, NEGATIVE, ZERO, of_bits
 from .linked import word
 from .newer_answers import Stored

@@ -7,7 +7,7 @@ from dataclasses import replace
 
 from lib.harness import blob_of, string
 
-from .forwards import LISTENED, OPENED
+from .forwards import LISTENED, OPENED, RUN
 from .linked import word
 from .login_calls import INSIDE, OUTSIDE, Certificates
 from .made import loaded
@@ -306,10 +306,23 @@ def check_forwarded(judge):
     judge.hold("ports of nobody", [("nowhere", replace(of.good, keys=()).words("forwards", "-", "22"), "90")])
 
 
+def check_run(judge):
+    """What runs by a grant, as checks/logins asks it of a real sshd."""
+    of = Lines(judge.made.maker)
+    questions = [("nothing", replace(of.good, keys=()).words("runs", "-", "0"), "90")]
+    for options, asked, wanted in RUN:
+        login = replace(of.good, keys=(f"{options} ".lstrip().encode() + of.own,))
+        command = login.words("runs", word((asked or "").encode()), str(int(asked is not None)))
+        name = f"by {options or 'no option'} where {asked or 'a shell'} is asked for"
+        questions.append((name, command, "3" if wanted is None else f"0 {word(wanted.encode())}"))
+    judge.hold("what runs", questions)
+
+
 def check_user_keys(judge):
     found = list(cases(judge.made.maker))
     judge.hold("a login by authorized_keys", [(name, it.words(), wanted) for name, it, wanted in found if not it.checks])
     if not judge.asker.is_package:
         judge.hold_alone("a login by authorized_keys", [(name, it.words(), wanted) for name, it, wanted in found if it.checks])
     check_forwarded(judge)
+    check_run(judge)
     check_stored(judge)

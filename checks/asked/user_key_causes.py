@@ -24,7 +24,7 @@ def has_value(values, *names):
 def is_no_entry(it, line):
     """Whether the line does not have the fields of the key that counts, with options or without, as each version reads them."""
     name, word = (it.authority or it.offered).encode().split()
-    return not re.match(rb"[ \t]*" + OPTIONS + re.escape(name) + rb"[ \t]+" + re.escape(word) + rb"(?:[ \t]|\Z)", line.split(b"\0")[0])
+    return not re.match(rb"[ \t]*" + OPTIONS + re.escape(name) + rb"[ \t]+" + re.escape(word) + rb"[\v\f\r]*(?:[ \t]|\Z)", line.split(b"\0")[0])
 
 
 def is_no_text(it, line):

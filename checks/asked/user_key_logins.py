@@ -47,6 +47,7 @@ OF_KEYS = [
     f'environment="{VARIABLE}=a",environment="{VARIABLE}=b" %s', f'environment="{VARIABLE}-=a" %s\nno-pty %s',
     'command="a",command="b" %s\n%s', f"foo %s\n{BY_FORCED} %s", "cert-authority %s", f"cert-authority %s\n{BY_FORCED} %s",
     f'principals="root" %s\n{BY_FORCED} %s', f"{BY_FORCED},no-pty %s\n%s", "%o\n%s", "# %s", "   \t%s a # b", "%s\r", f"{BY_FORCED} %s\r",
+    f"{BY_FORCED} %s\r\r", f"{BY_FORCED} %s\v\f me\n%s",
     'command="" %s', ",,no-pty,,pty, %s", 'permitopen="h:80" %s', 'permitopen="h:http" %s\n%s', 'tunnel="x" %s', 'tunnel="1" %s',
     "verify-required %s", "no-touch-required %s", f"//%s\n{BY_FORCED} %s", f"no-pty, no-user-rc %s\n{BY_FORCED} %s",
     f'command="a" command="b" %s\n{BY_FORCED} %s', f'"%s"\n{BY_FORCED} %s', f'command="a %s\n{BY_FORCED} %s', f"x: %s\n{BY_FORCED} %s",
@@ -62,7 +63,7 @@ OF_CERTIFICATES = [
     ("cert-authority %s", {"extensions": {}}), ("restrict,cert-authority %s", {}), ("no-pty,cert-authority %s", {}),
     ("cert-authority %s", {"critical": {"source-address": string(b"127.0.0.0/8")}}),
     ("cert-authority %s", {"critical": {"source-address": string(b"10.0.0.0/8")}}), ("cert-authority %s", {"window": (0, 1)}),
-    ("cert-authority %s", {"window": (2**33, 2**34)}), ("cert-authority %s", {"kind": 2}), ("%s", {}),
+    ("cert-authority %s", {"window": (2**33, 2**34)}), ("cert-authority %s", {"kind": 2}), ("%s", {}), (f"{BY_FORCED},cert-authority %s\r\r", {}),
     ('from="10.0.0.0/8",cert-authority %s\nno-pty,cert-authority %s', {}), ("cert-authority %s", {"critical": {"odd": b""}}),
 ]  # fmt: skip
 # and lines of a file of principals, where %s is the user

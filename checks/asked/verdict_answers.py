@@ -1,7 +1,16 @@
 """What the Python package answers of logins and hosts, for asked/answers.py."""
+import dataclasses
 import ipaddress
 
 from .linked import data_of, datas_of, word
+
+
+def outcome(call, *given):
+    """What a call gives, or how it fails."""
+    try:
+        return call(*given)
+    except Exception as error:  # pylint: disable=broad-exception-caught
+        return type(error), str(error)
 
 
 class VerdictAnswers:
@@ -74,6 +83,10 @@ class VerdictAnswers:
         of = self.granted(given, self.rafendilo.is_signature)
         return ["0", *(str(int(may(data_of(to), int(port)))) for may in (of.may_open, of.may_listen))]
 
+    def runs(self, asked, is_command, *given):
+        found = self.granted(given, self.rafendilo.is_signature).runs(data_of(asked).decode() if is_command == "1" else None)
+        return ["3"] if found is None else ["0", word(found.encode())]
+
     def places(self, found):
         """The hosts and ports as the library lays them out."""
         pairs = [it for host, port in found for it in (host, b"" if port is None else port.to_bytes(2, "big"))]
@@ -84,13 +97,20 @@ class VerdictAnswers:
             known_hosts=datas_of(texts), host=data_of(host), port=int(port), revoked=datas_of(files), unix_timestamp=second, least_rsa_bits=int(bits)
         )  # fmt: skip
 
+    def by_both(self, call, login, shown):
+        """What is said by the texts, which is said by those that are held too."""
+        held = dataclasses.replace(login, known_hosts=self.rafendilo.HeldHosts(login.known_hosts))
+        one, other = outcome(call, login, shown), outcome(call, held, shown)
+        assert one == other, (one, other)
+        return call(login, shown)
+
     def host_key(self, texts, host, key, files, port, bits):
-        self.rafendilo.check_host_key(self.host_of(texts, host, files, port, bits), data_of(key))
+        self.by_both(self.rafendilo.check_host_key, self.host_of(texts, host, files, port, bits), data_of(key))
         return ["0"]
 
     def host_certificate(self, texts, host, data, files, port, bits, second):
-        known_by = self.rafendilo.check_host_certificate(self.host_of(texts, host, files, port, bits, int(second)), data_of(data))
-        return ["0", str(known_by.value)]
+        login = self.host_of(texts, host, files, port, bits, int(second))
+        return ["0", str(self.by_both(self.rafendilo.check_host_certificate, login, data_of(data)).value)]
 
     def unreadable_line(self, text, host, port):
         found = self.rafendilo.unreadable_host_line(data_of(text), data_of(host), int(port))

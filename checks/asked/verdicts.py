@@ -9,11 +9,14 @@ WORDS = {
     r"(?:another (?:principal|authority)|no principals, or some that are not read) \(90\)":
         "no line is for the key, and no authority lists the user (90)",
 }  # fmt: skip
+# what both say of a login that nobody has signed
+LET_IN = "valid, if the client signs"
+
 
 def said(rafendilo, status):
-    """What sshkey-check says of a number."""
+    """What they say of a login by its number."""
     words = rafendilo._header.WORDS[rafendilo.Status(status)]
-    return words if status == rafendilo.Status.DONE else f"refused: {words} ({int(status)})"
+    return LET_IN if status == rafendilo.Status.DONE else f"refused: {words} ({int(status)})"
 
 
 def status_of(rafendilo, call, *given):
@@ -26,7 +29,7 @@ def status_of(rafendilo, call, *given):
 
 
 def said_by_checker(words, authority, user, second, lines):
-    """What the program says of each line: `valid`, or `refused` and why, but for when its time is. Below the first stands to what, which
+    """What the program says of each line: LET_IN, or `refused` and why, but for when its time is. Below the first stands to what, which
     begins with blanks."""
     ran = run([*words, "--ca", authority, "--user", user, "--at", str(second)], input="".join(f"{it}\n" for it in lines))
     if ran.returncode not in (0, 1):
@@ -36,7 +39,7 @@ def said_by_checker(words, authority, user, second, lines):
         told = re.sub(own, words_of_all, told)
     reasons = dict(re.findall(r"^sshkey-check: \(stdin\):(\d+): (.*)$", told, re.M))
     said_of_each = [it for it in ran.stdout.splitlines() if not it.startswith(" ")]
-    return [it if it == "valid" else f"{it}: {reasons.get(str(at), 'why?')}" for at, it in enumerate(said_of_each, 1)]
+    return [it if it == LET_IN else f"{it}: {reasons.get(str(at), 'why?')}" for at, it in enumerate(said_of_each, 1)]
 
 
 def said_by_python(rafendilo, by, user, second, lines):

@@ -1,4 +1,4 @@
-"""What checks ask of the table and of the programs of callers, apart from how the answers are judged: each check has the built
+"""What checks ask of the table and of the program callers, apart from how the answers are judged: each check has the built
 programs answer, and `checks/unproved` builds of the sources that no proof came before."""
 import os
 import subprocess
@@ -10,7 +10,7 @@ from typing import Callable
 from lib.harness import Count, built
 
 # the crates of the programs that answer lines
-TABLE, CALLERS, USER_KEYS = "sshkey_cases", "callers", "user_keys_cases"
+TABLE, CALLERS = "sshkey_cases", "callers"
 # how long a program may take for what one check asks
 SECONDS = 600
 # Of how many lists, lines and texts that a check draws one is asked: of built programs all, of unproved builds a third.

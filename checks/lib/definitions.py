@@ -7,8 +7,8 @@ from lib.edits import blocks_of
 
 # The crates whose definitions say what another program does. There a definition and its code can be wrong together.
 DECIDING = [
-    "sshkey_times", "sshkey_addresses", "sshkey_patterns", "login_terms", "login_policy", "user_keys", "host_keys", "allowed_signers",
-    "sshkey_known_hosts", "sshkey_userauth", "publickey_login", "openssh_limits", "sshkey_krl", "sshkey_revoked_keys", "sshkey_padding",
+    "sshkey_matching", "login_terms", "login_policy", "user_keys", "host_keys", "allowed_signers",
+    "sshkey_known_hosts", "sshkey_userauth", "publickey_login", "openssh_limits", "sshkey_krl", "sshkey_revoked_keys",
 ]  # fmt: skip
 # a word of a contract or a definition
 WORD = r"[^\s(){}\[\],;.:@◌]+"

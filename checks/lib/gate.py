@@ -18,7 +18,7 @@ from lib.processes import adopt, end_below, ended_children
 # the words of checks/gate.txt for what ./test runs
 BY_TEST = {"clone", "text", "sources"}
 # the crates of tests and of those that ask: ./test asks them unproved, and ./test --all --wrong proves them
-UNPROVED = ["sshkey_tests", "sshkey_cases", "sshkey_doubles", "callers", "user_keys_cases"]
+UNPROVED = ["sshkey_tests", "sshkey_cases", "sshkey_doubles", "callers"]
 # what each of both compilers left, LLVM's first
 COMPILERS = ["", ".by-rattle"]
 # how many parts are run side by side

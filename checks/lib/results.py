@@ -19,10 +19,22 @@ def sum_of_text(path=TEXT):
     return hashlib.sha256(code.encode()).hexdigest()[:16]
 
 
-def head():
+def processor():
+    """As Linux calls that of this machine."""
+    with open("/proc/cpuinfo", encoding="utf-8") as file:
+        model = re.search(r"model name\s*: (.*)", file.read())
+    return model[1] if model else "unknown"
+
+
+def version_of_valgrind():
+    """Its version."""
+    return subprocess.run(["valgrind", "--version"], capture_output=True, text=True, check=True).stdout.strip()
+
+
+def head(*by):
     """The first line of a part: when it was measured, by what, and of which text."""
-    version = subprocess.run(["valgrind", "--version"], capture_output=True, text=True, check=True).stdout.strip()
-    return f"{datetime.date.today():%d %B %Y}, {version}, of the library's text `{sum_of_text()}`.".lstrip("0")
+    measured = ", ".join(by or [version_of_valgrind()])
+    return f"{datetime.date.today():%d %B %Y}, {measured}, of the library's text `{sum_of_text()}`.".lstrip("0")
 
 
 def part_of(title, text):

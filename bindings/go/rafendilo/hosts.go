@@ -3,13 +3,48 @@ package rafendilo
 // #include "rafendilo.h"
 import "C"
 
-import "time"
+import (
+	"bytes"
+	"strings"
+	"time"
+)
+
+// HeldHosts is texts of known_hosts that are read once, to be asked again and again. Where lines name
+// hosts by neither patterns nor hashes, a question takes the time of the lines for its host, and of a
+// look at a number for each other. What is zero has no lines.
+type HeldHosts struct {
+	text   input
+	places []C.raf_line_place
+}
+
+// HoldHosts holds a copy of these texts, which are all that count, or all that do beside those of a
+// HostLogin.
+func HoldHosts(knownHosts []string) HeldHosts {
+	text := inputOf(strings.Join(knownHosts, "\n"))
+	places := make([]C.raf_line_place, bytes.Count(text, []byte("\n"))+1)
+	var count C.size_t
+	if C.raf_place_hosts(text.pointer(), text.length(), &places[0], C.size_t(len(places)), &count) != C.RAF_DONE {
+		// the library is another than the header's: without places each host is refused
+		count = 0
+	}
+	return HeldHosts{text, places[:count]}
+}
+
+func (held HeldHosts) place() *C.raf_line_place {
+	return &held.places[:1][0]
+}
+
+func (held HeldHosts) count() C.size_t {
+	return C.size_t(len(held.places))
+}
 
 // HostLogin is a host that shows a key or a certificate. What is left out trusts none.
 type HostLogin struct {
 	// KnownHosts are the texts of all the files of known_hosts that count, the user's and the
 	// machine's.
 	KnownHosts []string
+	// Held are such texts too, those that are held.
+	Held HeldHosts
 	// Host is the name or the address as the user typed it, alone: net.SplitHostPort takes
 	// apart what a dialer has. An address is asked in the text that ssh asks.
 	Host string
@@ -35,7 +70,12 @@ func CheckHostKey(login HostLogin, key []byte) error {
 	var memory held
 	defer memory.free()
 	asked, in := login.held(&memory), inputOf(key)
-	return errorOf(C.raf_check_host_key(&asked, in.pointer(), in.length()))
+	if login.Held.text == nil {
+		return errorOf(C.raf_check_host_key(&asked, in.pointer(), in.length()))
+	}
+	text := login.Held.text
+	return errorOf(C.raf_check_held_host_key(&asked, text.pointer(), text.length(),
+		login.Held.place(), login.Held.count(), in.pointer(), in.length()))
 }
 
 // KnownBy is by what a host that shows a certificate is known; what is zero is none of both.
@@ -64,8 +104,13 @@ func CheckHostCertificate(login HostLogin, certificate []byte) (KnownBy, error) 
 	asked, in := login.held(&memory), inputOf(certificate)
 	var knownBy C.uint32_t
 	err := decided(login.Verify, in, func(isVerified C.uint32_t) error {
-		return errorOf(C.raf_check_host_certificate(&asked, in.pointer(), in.length(),
-			isVerified, &knownBy))
+		text := login.Held.text
+		if text == nil {
+			return errorOf(C.raf_check_host_certificate(&asked, in.pointer(), in.length(),
+				isVerified, &knownBy))
+		}
+		return errorOf(C.raf_check_held_host_certificate(&asked, text.pointer(), text.length(),
+			login.Held.place(), login.Held.count(), in.pointer(), in.length(), isVerified, &knownBy))
 	})
 	return KnownBy(knownBy), err
 }

@@ -220,10 +220,24 @@ type Grant struct {
 // Runs is what runs where the client asks for that command, or for a shell (nil): the grant's
 // command, which may be empty, and else what the client asks for. The zero value runs nothing.
 func (grant Grant) Runs(asked *string) *string {
-	if grant.Permits.Has(PermitAnyCommand) {
-		return asked
+	of, asks := "", C.uint32_t(0)
+	if asked != nil {
+		of, asks = *asked, 1
 	}
-	return &grant.ShownCommand
+	in, command := inputOf(grant.ShownCommand), inputOf(of)
+	given := C.raf_grant{
+		permits: C.uint32_t(grant.Permits), force_command: C.raf_part{length: in.length()},
+	}
+	found, err := form(len(in)+len(of), func(to buffer, length *C.size_t) C.uint32_t {
+		return C.raf_runs(&given, in.pointer(), in.length(), command.pointer(), command.length(),
+			asks, to.at, to.length, length)
+	})
+	if err == Status(C.RAF_END) {
+		return nil
+	}
+	// with another error nothing runs
+	runs := string(found)
+	return &runs
 }
 
 // MayOpen says whether the client may have a port forwarded to that host and port, as its request

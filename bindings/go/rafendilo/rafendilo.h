@@ -74,8 +74,8 @@ enum {
   RAF_MEMORY = 1,       /* malloc refused; nothing is said of the input, and nothing is kept: the
                            call may be made again */
   RAF_SHORT_BUFFER = 2, /* the buffer is too short; `length` says how many bytes are needed */
-  RAF_END = 3,          /* nothing is left: the place is the end, or there is no such line or
-                           option */
+  RAF_END = 3,          /* nothing is left: the place is the end, or there is no such line, option
+                           or command */
   RAF_TEXT = 4,         /* the principal is not UTF-8, or a line of authorized_keys or known_hosts,
                            options, a host's name, an identity, a namespace or a time; nothing is
                            said of the rest. raf_read_line returns 11 for such a line */
@@ -804,7 +804,7 @@ uint32_t raf_line_may_name_authority(const uint8_t *line, size_t line_length,
 
 /* ---- whether a host is the known one (ssh(1)) ------------------------------------------------ */
 
-/* The host that a client connects to, and what is known of it. */
+/* The host that a client connects to, and what is known of it. What stays yours: docs/HOST.md. */
 typedef struct {
   raf_spans known_hosts;   /* the texts of all the files that count: one file alone may list a key
                               that another one revokes. They may have any bytes */
@@ -866,6 +866,37 @@ enum {
 uint32_t raf_check_host_certificate(const raf_host_login *login,
                                     const uint8_t *certificate, size_t certificate_length,
                                     uint32_t is_verified, uint32_t *known_by);
+
+/* A line of a text of known_hosts that is held, to be asked again and again. */
+typedef struct {
+  size_t length;  /* how many bytes the line has, with its end */
+  uint64_t names; /* for which names it may be */
+} raf_line_place;
+
+/* Writes the places of the lines of a text of known_hosts, one after the other, and sets `*count` to
+ * their number. RAF_DONE exactly if they are at most places_count, and else RAF_SHORT_BUFFER, which
+ * leaves the places as they were. One more than the text has line feeds is enough. Takes no memory.
+ *
+ * You keep the text and the places, and neither changes: raf_check_held_host_key then looks at a
+ * number for each line that is for others. Lines that have a pattern or a hash are read each time.
+ * Several texts are held as one if a line feed stands between them. */
+uint32_t raf_place_hosts(const uint8_t *known_hosts, size_t known_hosts_length,
+                         raf_line_place *places, size_t places_count, size_t *count);
+
+/* What raf_check_host_key says by login.known_hosts and the held text, as if all stood in one. The
+ * places are those that raf_place_hosts wrote of these very bytes: they are believed, as the text
+ * is. Where they are together not as long as the text, as those of a text that has grown since, it
+ * is RAF_HOST_UNREADABLE, after RAF_TEXT. */
+uint32_t raf_check_held_host_key(const raf_host_login *login, const uint8_t *held,
+                                 size_t held_length, const raf_line_place *places,
+                                 size_t places_count, const uint8_t *key, size_t key_length);
+
+/* What raf_check_host_certificate says, likewise. */
+uint32_t raf_check_held_host_certificate(const raf_host_login *login, const uint8_t *held,
+                                         size_t held_length, const raf_line_place *places,
+                                         size_t places_count, const uint8_t *certificate,
+                                         size_t certificate_length, uint32_t is_verified,
+                                         uint32_t *known_by);
 
 /* The number of the first line, from 1, of a text of known_hosts that is no entry and may be one
  * for the host at that port: by it the text is RAF_HOST_UNREADABLE, whatever the key. Empty lines
@@ -940,7 +971,7 @@ uint32_t raf_host_and_port(const uint8_t *text, size_t length, raf_destination *
 
 /* ---- who logs in by public key (RFC 4252, section 7; sshd_config(5)) ------------------------- */
 
-/* What a client offers in its request. */
+/* What a client offers in its request. What stays yours: docs/LOGIN.md. */
 typedef struct {
   raf_span user;      /* whom to log in as; UTF-8 */
   raf_span algorithm; /* as the request names it: rsa-sha2-512 also for a key of ssh-rsa. Of no bytes
@@ -1055,8 +1086,8 @@ enum {
 
 /* What a login is let in by, and what it may do. Zero permits nothing. */
 typedef struct {
-  raf_part force_command; /* what runs without RAF_PERMIT_ANY_COMMAND, whatever the client asks for:
-                             nothing, and no shell, where it has no bytes. With it no bytes */
+  raf_part force_command; /* to be shown: the command that is forced. It may have no bytes, and has
+                             none with RAF_PERMIT_ANY_COMMAND: raf_runs says what runs */
   raf_part key_id;        /* the certificate's, a text for logs; of a plain key no bytes */
   raf_part permit_open;   /* where ports may be forwarded, which raf_may_open reads: strings
                              (raf_next_string), two each: a host, and a port of two bytes,
@@ -1149,6 +1180,17 @@ uint32_t raf_may_open(const raf_grant *grant, const uint8_t *buffer, size_t buff
 uint32_t raf_may_listen(const raf_grant *grant, const uint8_t *buffer, size_t buffer_length,
                         const uint8_t *host, size_t host_length, uint32_t port);
 
+/* What runs where the client asks for that command ("exec" of RFC 4254, section 6.5), or where it
+ * asks for a shell ("shell"): then `asks_command` is 0, and `asked` is not looked at. Ask it each
+ * time: it is the way to the command. `granted` is the buffer that raf_log_in wrote with the grant.
+ *
+ * RAF_DONE with the command in the buffer: the grant's, if it forces one, and else the client's. The
+ * user's shell runs it by -c, and where it is empty nothing runs. RAF_END if a shell runs, as a login
+ * shell; else RAF_SHORT_BUFFER. A buffer as long as both is enough. Takes no memory. */
+uint32_t raf_runs(const raf_grant *grant, const uint8_t *granted, size_t granted_length,
+                  const uint8_t *asked, size_t asked_length, uint32_t asks_command,
+                  uint8_t *buffer, size_t buffer_length, size_t *length);
+
 /* ---------------------------------------------------------------------------------------------- */
 
 /* A pointer that may be passed beside the length 0, whatever `bytes` is. */
@@ -1227,6 +1269,9 @@ RAF_IS(offsetof(raf_host_login, unix_timestamp) == 48);
 RAF_IS(offsetof(raf_host_login, least_rsa_bits) == 56);
 RAF_IS(offsetof(raf_host_login, port) == 60);
 RAF_IS(sizeof(raf_host_login) == 64);
+RAF_IS(offsetof(raf_line_place, length) == 0);
+RAF_IS(offsetof(raf_line_place, names) == 8);
+RAF_IS(sizeof(raf_line_place) == 16);
 RAF_IS(offsetof(raf_entry, front) == 0);
 RAF_IS(offsetof(raf_entry, key) == 16);
 RAF_IS(offsetof(raf_entry, comment) == 32);

@@ -52,7 +52,7 @@ from ._files import (
     is_safe_mode,
 )
 from ._header import FOREVER, Algorithm, CertificateType, KnownBy, Marker, Permits, Source, Status
-from ._hosts import HostLogin, check_host_certificate, check_host_key, host_and_port, unreadable_host_line
+from ._hosts import HeldHosts, HostLogin, check_host_certificate, check_host_key, host_and_port, unreadable_host_line
 from ._keys import (
     fingerprint,
     fingerprint_sha512,
@@ -103,8 +103,8 @@ __version__ = "0.3.0"
 
 __all__ = [
     "ALL_PRINCIPALS", "FOREVER", "IN_CERTIFICATE", "NO_REVOCATIONS", "UNREADABLE", "Address", "Algorithm", "AllPrincipals",
-    "Authorities", "AuthorizedEntry", "BytesLike", "CertificateFields", "CertificateType", "Contents", "Grant", "HostLogin",
-    "InCertificate", "KnownBy", "KnownHost", "Line", "Marker", "NoKey", "Offer", "Permits", "Place", "Question", "Refused",
+    "Authorities", "AuthorizedEntry", "BytesLike", "CertificateFields", "CertificateType", "Contents", "Grant", "HeldHosts",
+    "HostLogin", "InCertificate", "KnownBy", "KnownHost", "Line", "Marker", "NoKey", "Offer", "Permits", "Place", "Question", "Refused",
     "Signed", "SignedBySshd", "SignedByTransport", "SignedRequest", "Signers", "Source", "Status", "Text", "Trusted", "Unreadable",
     "Verifier", "authorities", "authorized_entry", "certificate_contents", "certificate_fields", "certificate_question",
     "certificate_to_be_signed", "check_certificate", "check_certificate_with_answer", "check_from", "check_host_certificate",

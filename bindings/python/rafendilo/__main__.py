@@ -29,7 +29,7 @@ def check(line: bytes, by: rafendilo.Authorities, user: bytes, second: int) -> s
     rafendilo.may_offer(offer, rafendilo.Trusted(
         authorized_keys=[], authorities=by.keys, principals=rafendilo.IN_CERTIFICATE, command_keys=[], revoked=rafendilo.NO_REVOCATIONS,
     ), rafendilo.Place(None, second))  # fmt: skip
-    return "valid"
+    return "valid, if the client signs"
 
 
 def second_of(word: str) -> int:

@@ -28,7 +28,7 @@ class Status(Answer):
     DONE: Done; of a check: all is good, and of revocations that nothing revokes it.
     MEMORY: Malloc refused; nothing is said of the input, and nothing is kept: the call may be made again.
     SHORT_BUFFER: The buffer is too short; `length` says how many bytes are needed.
-    END: Nothing is left: the place is the end, or there is no such line or option.
+    END: Nothing is left: the place is the end, or there is no such line, option or command.
     TEXT: The principal is not UTF-8, or a line of authorized_keys or known_hosts, options, a host's name, an identity, a
         namespace or a time; nothing is said of the rest. raf_read_line returns 11 for such a line.
     BASE64: A word of a line is no Base64, or not the one of its bytes.
@@ -462,6 +462,12 @@ class HostLogin(Structure):
     ]
 
 
+class LinePlace(Structure):
+    """raf_line_place"""
+
+    _fields_ = [("length", c_size_t), ("names", c_uint64)]
+
+
 class TimeSpan(Structure):
     """raf_time_span"""
 
@@ -596,6 +602,11 @@ CALLS: dict[str, tuple[Any, ...]] = {
     "raf_line_may_name_authority": (c_char_p, c_size_t, c_char_p, c_size_t),
     "raf_check_host_key": (POINTER(HostLogin), c_char_p, c_size_t),
     "raf_check_host_certificate": (POINTER(HostLogin), c_char_p, c_size_t, c_uint32, POINTER(c_uint32)),
+    "raf_place_hosts": (c_char_p, c_size_t, POINTER(LinePlace), c_size_t, POINTER(c_size_t)),
+    "raf_check_held_host_key": (POINTER(HostLogin), c_char_p, c_size_t, POINTER(LinePlace), c_size_t, c_char_p, c_size_t),
+    "raf_check_held_host_certificate": (
+        POINTER(HostLogin), c_char_p, c_size_t, POINTER(LinePlace), c_size_t, c_char_p, c_size_t, c_uint32, POINTER(c_uint32)
+    ),
     "raf_unreadable_host_line": (c_char_p, c_size_t, c_char_p, c_size_t, c_uint16, POINTER(c_size_t)),
     "raf_check_source_address": (c_char_p, c_size_t, c_char_p, c_size_t),
     "raf_check_from": (c_char_p, c_size_t, c_char_p, c_size_t, c_char_p, c_size_t),
@@ -607,4 +618,5 @@ CALLS: dict[str, tuple[Any, ...]] = {
     "raf_may_offer": (POINTER(Login), POINTER(Sha256), c_uint32),
     "raf_may_open": (POINTER(Grant), c_char_p, c_size_t, c_char_p, c_size_t, c_uint32),
     "raf_may_listen": (POINTER(Grant), c_char_p, c_size_t, c_char_p, c_size_t, c_uint32),
+    "raf_runs": (POINTER(Grant), c_char_p, c_size_t, c_char_p, c_size_t, c_uint32, POINTER(c_uint8), c_size_t, POINTER(c_size_t)),
 }

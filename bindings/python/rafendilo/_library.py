@@ -75,11 +75,16 @@ def span_of(value: BytesLike) -> Span:
     return Span(*bytes_of(value))
 
 
-def spans_of(values: Iterable[BytesLike]) -> Spans:
+def files_of(values: Iterable[BytesLike]) -> list[bytes]:
     """The same of several. Raises TypeError where one is None, as a file that was not read, and for bytes in place of a list."""
     if isinstance(values, (str, bytes, bytearray, memoryview)):
         raise TypeError("a list of files is wanted, and not what one has")
-    spans = [span_of(it) for it in values]
+    return [bytes_of(it)[0] for it in values]
+
+
+def spans_of(values: Iterable[BytesLike]) -> Spans:
+    """The same as a struct has them."""
+    spans = [Span(it, len(it)) for it in files_of(values)]
     return Spans((Span * max(len(spans), 1))(*spans), len(spans))
 
 

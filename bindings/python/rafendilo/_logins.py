@@ -10,7 +10,7 @@ from . import _header
 from ._addresses import Address, packed
 from ._header import FOREVER, Asks, Permits, PrincipalsFrom, SignedHow, Source, Status
 from ._keys import question_in, string, strings
-from ._library import LIBRARY, ask, bytes_of, digests_of, done, number_of, parts_of, span_of, spans_of, text_of, texts_of
+from ._library import LIBRARY, ask, bytes_of, digests_of, done, number_of, parts_of, span_of, spans_of, text_of, texts_of, written
 from ._named import names_blobs
 from ._values import IN_CERTIFICATE, BytesLike, InCertificate, Refused, Text
 from ._verify import Verifier, is_signature
@@ -194,7 +194,16 @@ class Grant:
     def runs(self, asked: str | None) -> str | None:
         """What runs where the client asks for that command, or for a shell (None): the grant's command, which may be empty, and else
         what the client asks for. None is a shell."""
-        return asked if Permits.ANY_COMMAND in self.permits else self.shown_command or ""
+        buffer, length = text_of(self.shown_command or "")
+        grant = _header.Grant(force_command=_header.Part(0, length), permits=int(self.permits))
+        command, enough = text_of(asked or "")
+        given = ctypes.byref(grant), buffer, length, command, enough, asked is not None
+        try:
+            return written(lambda *to: LIBRARY.raf_runs(*given, *to), length + enough).decode()
+        except Refused as refused:
+            if refused.status != Status.END:
+                raise
+            return None
 
     def may_open(self, host: str | BytesLike, port: int) -> bool:
         """Whether the client may have a port forwarded to that host and port, as its request names them ("direct-tcpip"). Raises

@@ -53,10 +53,10 @@ pub(crate) fn expect_abi() {
 macro_rules! calls {
     (
         @ $first:tt $call:ident [$($rust:tt)*] [$($c:tt)*] [$($got:tt)*]
-        $it:ident: &mut [u8], $($more:tt)*
+        $it:ident: &mut [$of:ty], $($more:tt)*
     ) => {
         calls! {
-            @ $first $call [$($rust)* $it: &mut [u8],] [$($c)* _: *mut u8, _: usize,]
+            @ $first $call [$($rust)* $it: &mut [$of],] [$($c)* _: *mut $of, _: usize,]
             [$($got)* $it.as_mut_ptr(), $it.len(),] $($more)*
         }
     };

@@ -3,6 +3,7 @@
 use std::fmt;
 use std::ops::RangeInclusive;
 
+use crate::buffers::written;
 use crate::certificates::text;
 use crate::digests::Sha256;
 use crate::permits::Permits;
@@ -88,11 +89,19 @@ impl Grant {
     /// command, which may be empty, and else what the client asks for. Where that is none, it is a
     /// shell.
     #[must_use]
-    pub fn runs<'a>(&'a self, asked: Option<&'a str>) -> Option<&'a str> {
-        if self.permits.contains(Permits::ANY_COMMAND) {
-            return asked;
+    pub fn runs(&self, asked: Option<&str>) -> Option<String> {
+        let forced = self.shown_command.as_deref().unwrap_or_default().as_bytes();
+        let mut grant = raw::Grant { permits: self.permits.bits(), ..raw::Grant::default() };
+        grant.force_command.length = forced.len();
+        let (asks_command, asked) = (asked.is_some(), asked.unwrap_or_default().as_bytes());
+        let found = written(forced.len() + asked.len(), |buffer, length| {
+            raw::raf_runs(&grant, forced, asked, asks_command.into(), buffer, length)
+        });
+        if found == Err(Status::END) {
+            return None;
         }
-        Some(self.shown_command.as_deref().unwrap_or_default())
+        // with another error nothing runs
+        Some(String::from_utf8(found.unwrap_or_default()).unwrap_or_default())
     }
 
     /// Whether the client may have a port forwarded to that host and port, as its request names

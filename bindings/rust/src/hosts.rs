@@ -8,6 +8,49 @@ use crate::questions::{decide, Question};
 use crate::raw;
 use crate::status::Status;
 
+/// Texts of known_hosts that are read once, to be asked again and again. Where lines name hosts by
+/// neither patterns nor hashes, a question takes the time of the lines for its host, and of a look
+/// at a number for each other.
+#[derive(Clone, Debug)]
+pub struct HeldHosts {
+    text: Vec<u8>,
+    places: Vec<raw::LinePlace>,
+}
+
+impl HeldHosts {
+    /// Holds a copy of these texts, which are all that count.
+    pub fn new(known_hosts: &[&[u8]]) -> HeldHosts {
+        let text = known_hosts.join(&b'\n');
+        let lines = text.iter().filter(|&&byte| byte == b'\n').count() + 1;
+        let (mut places, mut count) = (vec![raw::LinePlace::default(); lines], 0);
+        if raw::raf_place_hosts(&text, &mut places, &mut count) != 0 {
+            // the library is another than the header's: without places each host is refused
+            count = 0;
+        }
+        places.truncate(count);
+        HeldHosts { text, places }
+    }
+
+    /// As [`check_host_key`], by these texts and those of the login.
+    pub fn check_host_key(&self, login: &HostLogin<'_>, key: &[u8]) -> Result<(), Status> {
+        let (text, places) = (&self.text, &self.places);
+        with_raw(login, |asked| raw::raf_check_held_host_key(asked, text, places, key))
+    }
+
+    /// As [`check_host_certificate`], by these texts and those of the login.
+    pub fn check_host_certificate(
+        &self,
+        login: &HostLogin<'_>,
+        certificate: &[u8],
+        verify: impl FnOnce(&Question) -> bool,
+    ) -> Result<KnownBy, Status> {
+        let (text, places) = (&self.text, &self.places);
+        known_by(login, certificate, verify, |asked, yes, by| {
+            raw::raf_check_held_host_certificate(asked, text, places, certificate, yes, by)
+        })
+    }
+}
+
 /// A host that shows a key or a certificate, and what is known of it.
 #[derive(Clone, Copy, Debug)]
 pub struct HostLogin<'a> {
@@ -70,11 +113,21 @@ pub fn check_host_certificate(
     certificate: &[u8],
     verify: impl FnOnce(&Question) -> bool,
 ) -> Result<KnownBy, Status> {
+    known_by(login, certificate, verify, |asked, yes, by| {
+        raw::raf_check_host_certificate(asked, certificate, yes, by)
+    })
+}
+
+/// What a call says of the login and the certificate, by what the verification said.
+fn known_by(
+    login: &HostLogin<'_>,
+    certificate: &[u8],
+    verify: impl FnOnce(&Question) -> bool,
+    call: impl Fn(&raw::HostLogin<'_>, u32, &mut u32) -> u32,
+) -> Result<KnownBy, Status> {
     let verdict = |yes| {
         let mut known_by = 0;
-        with_raw(login, |asked| {
-            raw::raf_check_host_certificate(asked, certificate, u32::from(yes), &mut known_by)
-        })?;
+        with_raw(login, |asked| call(asked, u32::from(yes), &mut known_by))?;
         let mut ways = [KnownBy::Authority, KnownBy::CertifiedKey].into_iter();
         ways.find(|it| *it as u32 == known_by).ok_or(Status::OTHER_ERROR)
     };

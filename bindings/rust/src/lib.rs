@@ -96,7 +96,8 @@ pub use files::{
 };
 pub use grants::{Grant, HostPort, Refused, Source};
 pub use hosts::{
-    check_host_certificate, check_host_key, host_and_port, unreadable_host_line, HostLogin, KnownBy,
+    check_host_certificate, check_host_key, host_and_port, unreadable_host_line, HeldHosts,
+    HostLogin, KnownBy,
 };
 pub use keys::{
     may_verify, normal_certificate, normal_key, normal_signature, normal_sshsig, read_line,

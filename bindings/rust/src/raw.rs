@@ -146,7 +146,7 @@ statuses! {
     MEMORY = 1, "no memory";
     /// The buffer is too short; `length` says how many bytes are needed.
     SHORT_BUFFER = 2, "the buffer is too short";
-    /// Nothing is left: the place is the end, or there is no such line or option.
+    /// Nothing is left: the place is the end, or there is no such line, option or command.
     END = 3, "nothing is left";
     /// The principal is not UTF-8, or a line of authorized_keys or known_hosts, options, a host's
     /// name, an identity, a namespace or a time; nothing is said of the rest. raf_read_line returns
@@ -465,6 +465,16 @@ pub(crate) struct HostLogin<'a> {
     pub port: u16,
 }
 
+/// A line of a text of known_hosts that is held, to be asked again and again.
+#[repr(C)]
+#[derive(Clone, Copy, Debug, Default)]
+pub(crate) struct LinePlace {
+    /// How many bytes the line has, with its end.
+    pub length: usize,
+    /// For which names it may be.
+    pub names: u64,
+}
+
 /// The seconds since 1970 that a time may mean: from one to the other.
 #[repr(C)]
 #[derive(Clone, Copy, Debug, Default)]
@@ -598,8 +608,7 @@ pub(crate) struct LoginQuestions {
 #[repr(C)]
 #[derive(Clone, Copy, Debug, Default)]
 pub(crate) struct Grant {
-    /// What runs without RAF_PERMIT_ANY_COMMAND, whatever the client asks for: nothing, and no
-    /// shell, where it has no bytes.
+    /// To be shown: the command that is forced.
     pub force_command: Part,
     /// The certificate's, a text for logs; of a plain key no bytes.
     pub key_id: Part,
@@ -649,6 +658,7 @@ const _: () = assert!(size_of::<Spans>() == 16);
 const _: () = assert!(size_of::<Digests>() == 16);
 const _: () = assert!(size_of::<Draft>() == 144);
 const _: () = assert!(size_of::<HostLogin>() == 64);
+const _: () = assert!(size_of::<LinePlace>() == 16);
 const _: () = assert!(size_of::<Entry>() == 64);
 const _: () = assert!(size_of::<LineOptionParts>() == 56);
 const _: () = assert!(size_of::<TimeSpan>() == 16);
@@ -737,6 +747,14 @@ calls! {
     fn raf_check_host_certificate(
         login: &HostLogin<'_>, certificate: &[u8], is_verified: u32, known_by: &mut u32
     );
+    fn raf_place_hosts(known_hosts: &[u8], places: &mut [LinePlace], count: &mut usize);
+    fn raf_check_held_host_key(
+        login: &HostLogin<'_>, held: &[u8], places: &[LinePlace], key: &[u8]
+    );
+    fn raf_check_held_host_certificate(
+        login: &HostLogin<'_>, held: &[u8], places: &[LinePlace], certificate: &[u8],
+        is_verified: u32, known_by: &mut u32
+    );
     fn raf_unreadable_host_line(known_hosts: &[u8], host: &[u8], port: u16, number: &mut usize);
     fn raf_check_source_address(list: &[u8], address: &[u8]);
     fn raf_check_from(list: &[u8], host: &[u8], address: &[u8]);
@@ -750,4 +768,8 @@ calls! {
     fn raf_may_offer(login: &Login<'_>, ticket: &Sha256, answers: u32);
     fn raf_may_open(grant: &Grant, buffer: &[u8], host: &[u8], port: u32);
     fn raf_may_listen(grant: &Grant, buffer: &[u8], host: &[u8], port: u32);
+    fn raf_runs(
+        grant: &Grant, granted: &[u8], asked: &[u8], asks_command: u32, buffer: &mut [u8],
+        length: &mut usize
+    );
 }

@@ -203,8 +203,8 @@ fn a_grant_says_where_ports_may_be_forwarded_and_what_runs() {
     assert!(!forced.may_open("db", 5433));
     assert!(forced.may_listen("", 0));
     assert!(!forced.may_listen("h", 65536));
-    assert_eq!((forced.runs(Some("ls")), forced.runs(None)), (Some(""), Some("")));
+    assert_eq!((forced.runs(Some("ls")), forced.runs(None)), (Some("".into()), Some("".into())));
     let free = Grant { permits: Permits::ANY_COMMAND, shown_command: None, ..forced };
-    assert_eq!((free.runs(Some("ls")), free.runs(None)), (Some("ls"), None));
+    assert_eq!((free.runs(Some("ls")), free.runs(None)), (Some("ls".into()), None));
     assert!(!Grant { permit_open: Vec::new(), ..free }.may_open("db", 5432));
 }

@@ -124,6 +124,19 @@ func forwards(of []string) ([]string, error) {
 	return []string{bit(grant.MayOpen(host, port)), bit(grant.MayListen(host, port))}, err
 }
 
+func runs(of []string) ([]string, error) {
+	grant, err := granted(of[2:], nil)
+	if err != nil {
+		return nil, err
+	}
+	asked := text(of[0])
+	command := map[string]*string{"1": &asked}[of[1]]
+	if found := grant.Runs(command); found != nil {
+		return []string{word(*found)}, nil
+	}
+	return nil, rafendilo.Status(3) // RAF_END
+}
+
 func stringsOf(contents ...string) []byte {
 	found := []byte{}
 	for _, content := range contents {

@@ -101,14 +101,21 @@ var answers = map[string]func(of []string) ([]string, error){
 	},
 	"options":  options,
 	"forwards": forwards,
+	"runs":     runs,
 	"host-key": func(of []string) ([]string, error) {
-		return nil, rafendilo.CheckHostKey(hostLogin(of), data(of[2]))
+		login := hostLogin(of)
+		err := rafendilo.CheckHostKey(login, data(of[2]))
+		return nil, same(err, rafendilo.CheckHostKey(held(login), data(of[2])))
 	},
 	"host-certificate": func(of []string) ([]string, error) {
 		login := hostLogin(of)
 		login.Now = at(of[6])
 		knownBy, err := rafendilo.CheckHostCertificate(login, data(of[2]))
-		return []string{strconv.FormatUint(uint64(knownBy), 10)}, err
+		again, its := rafendilo.CheckHostCertificate(held(login), data(of[2]))
+		if again != knownBy {
+			its = errors.New("another by those that are held")
+		}
+		return []string{strconv.FormatUint(uint64(knownBy), 10)}, same(err, its)
 	},
 	"unreadable-line": unreadableLine,
 	"other-key-line": func(of []string) ([]string, error) {
@@ -378,6 +385,20 @@ func hostLogin(of []string) rafendilo.HostLogin {
 		login.KnownHosts = append(login.KnownHosts, string(known))
 	}
 	return login
+}
+
+// held is the same host by its texts as those that are held.
+func held(login rafendilo.HostLogin) rafendilo.HostLogin {
+	login.Held, login.KnownHosts = rafendilo.HoldHosts(login.KnownHosts), nil
+	return login
+}
+
+// same is the error of both, or says that they are two.
+func same(one, other error) error {
+	if one != other {
+		return fmt.Errorf("%v, and by those that are held %v", one, other)
+	}
+	return one
 }
 
 func unreadableLine(of []string) ([]string, error) {

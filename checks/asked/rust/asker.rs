@@ -5,8 +5,8 @@ use std::io::{self, BufRead};
 use std::net::IpAddr;
 
 use rafendilo::{
-    is_signature, CertificateType, Draft, HashAlgorithm, HostLogin, KnownBy, Listed, Principal,
-    Question, Sha256, Signers, Status,
+    is_signature, CertificateType, Draft, HashAlgorithm, HeldHosts, HostLogin, KnownBy, Listed,
+    Principal, Question, Sha256, Signers, Status,
 };
 
 mod logins;
@@ -129,10 +129,17 @@ fn host_verdict(what: &str, given: &[&str]) -> String {
         unix_timestamp: given.get(6).map_or(0, |it| number(it)),
         least_rsa_bits: number(given[5]).try_into().expect("a number of bits"),
     };
+    let held = HeldHosts::new(login.known_hosts);
+    let alone = HostLogin { known_hosts: &[], ..login };
     if what == "host-key" {
-        return number_of(rafendilo::check_host_key(&login, &shown));
+        let said = rafendilo::check_host_key(&login, &shown);
+        assert_eq!(said, held.check_host_key(&alone, &shown), "by those that are held");
+        return number_of(said);
     }
-    match rafendilo::check_host_certificate(&login, &shown, is_signature) {
+    let said = rafendilo::check_host_certificate(&login, &shown, is_signature);
+    let again = held.check_host_certificate(&alone, &shown, is_signature);
+    assert_eq!(said, again, "by those that are held");
+    match said {
         Ok(KnownBy::Authority) => "0 1".into(),
         Ok(KnownBy::CertifiedKey) => "0 2".into(),
         Err(status) => status.number().to_string(),
@@ -363,6 +370,7 @@ fn answer(question: &str) -> Answer {
         "log-in-questions" => Ok(logins::log_in_questions(given)),
         "may-offer" => Ok(logins::may_offer(given)),
         "forwards" => logins::forwards(given),
+        "runs" => logins::runs(given),
         "host-key" | "host-certificate" => Ok(host_verdict(what, given)),
         "unreadable-line" => unreadable_line(given),
         "other-key-line" => other_key_line(&at(0)),

@@ -139,6 +139,14 @@ pub(crate) fn forwards(given: &[&str]) -> Answer {
     words(both.map(|it| u8::from(it).to_string()))
 }
 
+/// What runs by a grant.
+pub(crate) fn runs(given: &[&str]) -> Answer {
+    let asked = String::from_utf8(data(given[0])).expect("a command");
+    let grant = logged_in(&given[2..], is_signature)?;
+    let command = Some(&asked[..]).filter(|_| given[1] == "1");
+    words([word(grant.runs(command).ok_or(Status::END)?)])
+}
+
 fn string(content: impl AsRef<[u8]>) -> Vec<u8> {
     rafendilo::string(content).expect("a string")
 }

@@ -11,8 +11,8 @@ use Rattle.sshkey_entries.specs.Words.{Names}
 use Rattle.sshkey_entries.proofs.Fields.{same_field}
 use Rattle.sshkey_model.specs.Keys.{Key, Ed25519}
 use Rattle.sshkey_model.specs.Lines.{IsWithout}
-use Rattle.sshkey_patterns.specs.Patterns.{MatchesList}
-use Rattle.sshkey_patterns.proofs.Deciding.{decides_all, decides_list, matches_list}
+use Rattle.sshkey_matching.specs.Patterns.{MatchesList}
+use Rattle.sshkey_matching.proofs.PatternTests.{decides_all, decides_list, matches_list}
 use Rattle.allowed_signers.specs.AllowedSigners.{AllowsSigner}
 use Rattle.allowed_signers.specs.Principals.{HasPrincipals}
 

@@ -7,7 +7,7 @@ use Rattle.std.specs.Prelude.{position, slice_index}
 use Rattle.sshkey_entries.specs.Fields.{EndsField}
 use Rattle.sshkey_entries.specs.Items.{is_quote}
 use Rattle.sshkey_entries.specs.OptionItems.{quote}
-use Rattle.sshkey_patterns.proofs.PatternLists.{none_before, none_there, parts_at}
+use Rattle.sshkey_matching.proofs.PatternLists.{none_before, none_there, parts_at}
 use Rattle.sshkey_entries.specs.OptionEnds.{is_blank}
 use Rattle.sshkey_entries.specs.Cuts.{CutsField}
 use Rattle.sshkey_model.specs.Lines.{IsWithout}

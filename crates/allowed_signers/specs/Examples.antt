@@ -8,8 +8,8 @@ use Rattle.sshkey_model.specs.KeyExamples.{ed25519_key, ed25519_point}
 use Rattle.sshkey_model.specs.Keys.{Key, SkEd25519}
 use Rattle.sshkey_model.specs.Names.{Algorithm, Sha512}
 use Rattle.sshkey_model.specs.SshSignatures.{SshSignature}
-use Rattle.sshkey_times.specs.Times.{IsTimeText}
-use Rattle.sshkey_times.specs.declared.times.Span.{Span}
+use Rattle.sshkey_matching.specs.Times.{IsTimeText}
+use Rattle.sshkey_matching.specs.declared.times.Span.{Span}
 use Rattle.allowed_signers.specs.AllowedSigners.{AllowsSigner, Counts, HasSigned, IsAllowed, IsEntryFor}
 use Rattle.allowed_signers.specs.Principals.{HasPrincipals}
 use Rattle.allowed_signers.specs.SignerOptions.{AddsValue, AreTerms, AreTimesInOrder, Permits, Terms, no_terms, words}

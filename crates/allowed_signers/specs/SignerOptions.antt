@@ -4,9 +4,9 @@ use Rattle.sshkey_entries.specs.KnownHosts.{comma}
 use Rattle.sshkey_entries.specs.OptionItems.{Says}
 use Rattle.sshkey_entries.specs.Patterns.{MatchesList}
 use Rattle.sshkey_entries.specs.Words.{Names}
-use Rattle.sshkey_times.specs.Times.{IsTimeText}
+use Rattle.sshkey_matching.specs.Times.{IsTimeText}
 use Rattle.allowed_signers.specs.declared.options.SignerOptions.{SignerOptions}
-use Rattle.sshkey_times.specs.declared.times.Span.{Span}
+use Rattle.sshkey_matching.specs.declared.times.Span.{Span}
 use Rattle.allowed_signers.specs.declared.options.Word.{Word}
 use Rattle.allowed_signers.specs.declared.options.Word.TheVariants.{CertAuthority, Namespaces, ValidAfter, ValidBefore}
 

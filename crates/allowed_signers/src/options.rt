@@ -8,7 +8,7 @@ ghost use Rattle.allowed_signers.specs.SignerOptions.{AddsOption, AddsValue, Are
 
 use sshkey_authorized_keys::read_options;
 use sshkey_entries::{AddOptions, LetterCase, Reading, find_word, matches_pattern_list};
-use sshkey_times::{Span, read_time};
+use sshkey_matching::{Span, read_time};
 use std::alloc::{AllocError, Global};
 
 /// The name of an option.

@@ -8,12 +8,12 @@ ghost use Rattle.sshkey_keys.specs.Keys.{key_of};
 ghost use Rattle.sshkey_model.specs.Keys.{IsKey};
 ghost use Rattle.sshkey_sshsig.specs.SshSignatures.{ssh_signature_of};
 ghost use Rattle.sshkey_base.specs.declared.error.Error.TheVariants.{Memory};
-ghost use Rattle.sshkey_padding.specs.Padding.{padding};
+ghost use Rattle.openssh_limits.specs.Padding.{padding};
 ghost use Rattle.allowed_signers.specs.AllowedSigners.{AllowsSigner, AnswersYesOrNo, Counts, HasEntryFor, HasSignature, HasSigned, IsAllowed, IsEntryFor, IsNo, IsRefusalFor, IsWhy, OkExactly, OptionsPermit, ReadsSignature, SpelledBySome, bare_entry};
 
 use crate::line::{is_without, split_principals};
 use crate::options::SignerOptions;
-use openssh_limits::openssh_reads_application;
+use openssh_limits::{Padding, openssh_reads_application};
 use sshkey_authorized_keys::bytes_split_options;
 use sshkey_base::{Error, Result};
 use sshkey_entries::bytes::{skip_blanks, text_of};
@@ -21,7 +21,6 @@ use sshkey_entries::laws::one_authorized_line;
 use sshkey_entries::{LetterCase, NonBlankByteLines, bytes_match_pattern_list, read_key_bytes};
 use sshkey_keys::{KeyData, RawVerifier};
 use sshkey_krl::Revocations;
-use sshkey_padding::Padding;
 use sshkey_public::PublicKey;
 use sshkey_sshsig::SshSig;
 use sshkey_sshsig::laws::{one_ssh_signature, signed_parts_fit};
@@ -73,7 +72,7 @@ pub enum SignerRefusal {
 /// whatever its flags say, also where nobody touched it, as for ssh-keygen: the flags are the fifth
 /// byte from the end of `Signature::as_bytes`, and the bit 0x01 says that somebody did. The verifier
 /// is asked about an RSA signature with the zeros in front that its signer left out, as ssh-keygen
-/// verifies it (`sshkey_padding::Padding`). Keys that
+/// verifies it (`openssh_limits::Padding`). Keys that
 /// ssh-keygen does not read are left to the verifier: RSA keys of fewer than 1,024 bits or more
 /// than 16,384, keys with negative numbers, and points that are compressed or not on their curve.
 pub fn verify<R: Revocations, V: RawVerifier>(

@@ -1,6 +1,11 @@
 //! An authority: what it certifies, until when, under which serial numbers, and what it took back.
 //!
 //! It names `ssh_key` and `openssh_limits` alone, and is proved from their contracts. Copy both.
+//!
+//! # What is proved, tested and trusted
+//!
+//! It is proved from public contracts alone, in both directions. `checks/callers` compares it with
+//! OpenSSH. The signer that it is given is trusted.
 #![tactic(auto)]
 
 mod authority;

@@ -1,9 +1,9 @@
 //! Asks a signing key in an agent.
 
-use crate::agent::shown_signature;
+use crate::messages::shown_signature;
 use crate::verified::Told;
 use crate::words::{NO_LINE, bytes, number};
-use agent_client::{Agent, AgentKey};
+use agent::{Agent, AgentKey};
 use ssh_key::public::KeyData;
 use ssh_key::{Error, PublicKey, Result, Signature, SigningKey};
 use std::alloc::Global;

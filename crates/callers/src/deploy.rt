@@ -3,8 +3,8 @@
 use crate::revoked::read_lists;
 use crate::verified::Told;
 use crate::words::{NO_LINE, bytes, text};
-use deploy_keys::find_signer;
 use ssh_key::Result;
+use sshkey_examples::find_signer;
 use std::alloc::{AllocError, Global};
 
 /// Whose signature it is. The deploy keys, the content, what stands in the armour of the signature,

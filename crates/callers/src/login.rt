@@ -5,7 +5,7 @@ use crate::verified::Told;
 use crate::words::{NO_LINE, blob, fingerprints, number};
 use login_policy::{Client, Grant, Login, LoginRefusal, log_in};
 use ssh_key::certificate::CertificateRefusal;
-use ssh_key::{Certificate, Error, PublicKey, Result};
+use ssh_key::{Certificate, Error, Result};
 use std::alloc::{AllocError, Global};
 use std::net::IpAddr;
 
@@ -24,8 +24,8 @@ pub(crate) fn answer_from(
 }
 
 /// Whether the user is let in from there, where an RSA key has so many bits at least. The words are
-/// the user, the second, the offered key, the certificate, the authorities' fingerprints in one
-/// word, and the lists of what is revoked in all others.
+/// the user, the second, the certificate, the authorities' fingerprints in one word, and the lists
+/// of what is revoked in all others.
 pub(crate) fn answer(
     alloc: Global,
     words: &[&str],
@@ -33,25 +33,15 @@ pub(crate) fn answer(
     client: Client,
     told: &Told,
 ) -> Result<String> {
-    let [
-        user,
-        seconds,
-        offered,
-        certificate,
-        authorities,
-        revoked @ ..,
-    ] = words
-    else {
+    let [user, seconds, certificate, authorities, revoked @ ..] = words else {
         return Err(NO_LINE);
     };
-    let offered = PublicKey::from_openssh(alloc, offered)?;
     let authorities = fingerprints(alloc, authorities)?;
     Certificate::from_openssh(alloc, certificate)?; // so the line is one of a certificate
     let certificate = blob(alloc, certificate)?;
     let login = Login {
         certificate: &certificate,
         user,
-        offered: offered.key_data(),
         unix_timestamp: number(seconds)?,
         authorities: &authorities,
         least_rsa_bits,

@@ -8,7 +8,7 @@ ghost use Rattle.callers.specs.Told.{is_about, same_key};
 
 use crate::words::{NO_LINE, bytes};
 use ssh_key::public::KeyData;
-use ssh_key::{Algorithm, PublicKey, RawVerifier, Result, Signature};
+use ssh_key::{Algorithm, PublicKey, RawVerifier, Result, Signature, SignatureQuestion};
 use std::alloc::{AllocError, Global};
 use std::cell::Cell;
 
@@ -44,6 +44,25 @@ impl Told {
     /// Tells of one more. Refused only when out of memory.
     pub(crate) fn add(&mut self, verified: Verified) -> Result<()> {
         Ok(self.verified.push(verified)?)
+    }
+
+    /// One that was told of the signature in the word, its parts with commas between, or by `-` of
+    /// none.
+    pub(crate) fn read(alloc: Global, word: &str) -> Result<Told> {
+        let mut told = Told::new(alloc);
+        if word != "-" {
+            let words = word.split(',').collect::<Vec<&str>>(alloc)?;
+            told.add(read_verified(alloc, words.as_slice())?)?;
+        }
+        Ok(told)
+    }
+
+    /// Whether there is a question, about a signature that it was told of.
+    pub(crate) fn accepts(&self, question: Option<&SignatureQuestion<'static>>) -> bool {
+        match question {
+            Some(question) => matches!(question.is_accepted(self), Ok(true)),
+            None => false,
+        }
     }
 
     /// How often it was asked.
@@ -127,7 +146,7 @@ fn is_same(key: &KeyData, other: &KeyData) -> bool
     }
 }
 
-/// What a line tells: the name of the algorithm, the line of the key, and message and signature in
+/// What a line or a word tells: the name of the algorithm, the line of the key, and message and signature in
 /// hexadecimal digits.
 pub(crate) fn read_verified(alloc: Global, words: &[&str]) -> Result<Verified> {
     let [algorithm, key, message, signature] = words else {

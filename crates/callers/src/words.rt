@@ -83,3 +83,11 @@ pub(crate) fn names(alloc: Global, text: &str) -> Result<Vec<String>> {
     }
     Ok(found)
 }
+
+/// The name of a host; an empty word where none was found.
+pub(crate) fn host_name(alloc: Global, word: &str) -> Result<Option<String>> {
+    if word.is_empty() {
+        return Ok(None);
+    }
+    Ok(Some(String::from_str(alloc, word)?))
+}

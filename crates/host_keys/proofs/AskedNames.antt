@@ -1,9 +1,9 @@
 -- From the name that is asked to the host.
 use Rattle.std.proofs.Common.{◌≡◌, ◌≢◌, ◌⊎◌, ◌<◌, length, ℕ, Bool, true, false, IfErr, List, Result, Ok, Err, inl, inr, subst, sym, ◌∙◌}
-use Rattle.sshkey_addresses.specs.AskedHosts.{IsAsked, IsHostFault}
-use Rattle.sshkey_addresses.specs.Likeness.{is_like_address}
-use Rattle.sshkey_addresses.specs.declared.host.HostFault.{HostFault}
-use Rattle.sshkey_addresses.proofs.AskedHosts.{no_fault, one_asked}
+use Rattle.sshkey_matching.specs.AskedHosts.{IsAsked, IsHostFault}
+use Rattle.sshkey_matching.specs.Likeness.{is_like_address}
+use Rattle.sshkey_matching.specs.declared.host.HostFault.{HostFault}
+use Rattle.sshkey_matching.proofs.AskedHosts.{no_fault, one_asked}
 use Rattle.host_keys.specs.Answers.{IsRefusalForHost, KnownExactly, OkExactly, RefusesAsked}
 use Rattle.host_keys.specs.Hosts.{HostCheck, OfAsked}
 use Rattle.host_keys.specs.declared.known_by.KnownBy.{KnownBy}

@@ -5,14 +5,14 @@ use Rattle.std.specs.List.{All, list_all, list_any}
 use Rattle.std.specs.Prelude.{Contains}
 use Rattle.std.proofs.lemmas.Slice.Eq.{bytes_eq-Decides}
 use Rattle.openssh_limits.specs.Read.{AreReadPrincipals}
-use Rattle.sshkey_addresses.specs.AskedHosts.{IsAsked}
-use Rattle.sshkey_addresses.proofs.AskedHosts.{one_asked}
+use Rattle.sshkey_matching.specs.AskedHosts.{IsAsked}
+use Rattle.sshkey_matching.proofs.AskedHosts.{one_asked}
 use Rattle.sshkey_entries.specs.HostVerdicts.{IsAuthority}
 use Rattle.sshkey_entries.specs.KnownHosts.{CertAuthority}
 use Rattle.sshkey_known_hosts.specs.Examples.{by_line, host, line}
 use Rattle.sshkey_known_hosts.specs.Hmac.{hmac_sha1}
 use Rattle.sshkey_known_hosts.specs.Verdicts.{IsVerdict}
-use Rattle.sshkey_patterns.specs.Commas.{patterns}
+use Rattle.sshkey_matching.specs.Commas.{patterns}
 use Rattle.sshkey_known_hosts.specs.declared.verdict.Verdict.{Verdict}
 use Rattle.sshkey_known_hosts.specs.declared.verdict.Verdict.TheVariants as verdict
 use Rattle.sshkey_known_hosts.proofs.ExampleLemmas.{apart, host_fits, host_line, of_authority, of_each, of_none, of_unnamed, pair, said_of_host, unnamed_at_port}

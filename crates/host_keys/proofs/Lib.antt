@@ -4,5 +4,6 @@ mod CertifiedKeys
 mod ExampleLemmas
 mod Listed
 mod Said
+pub mod SameAnswers
 pub mod SeveralTexts
 mod Signed

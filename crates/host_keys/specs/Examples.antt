@@ -20,7 +20,9 @@ use Rattle.sshkey_base.specs.declared.error.Error.TheVariants.{CertificateFieldI
 use Rattle.sshkey_cert.specs.declared.certificate.refusal.CertificateRefusal.TheVariants.{Signature, Window}
 use Rattle.host_keys.specs.Answers.{IsWhy, IsWhyNoCertifiedKey, IsWhyUnknown, KnownExactly, answer_of, is_final, of_both, verdict_answer}
 use Rattle.host_keys.specs.declared.known_by.KnownBy.TheVariants.{Authority, CertifiedKey}
-use Rattle.host_keys.specs.Hosts.{AreForHosts, HasOtherField, HasTrustedKey, HostCheck, IsGoodFor, IsHostKey, IsKnownBy, IsSaid, IsSettled, IsTrustedByKey, IsTrustedCertificate, IsTrustedKey, IsUnread, IsVerdictOfSigned, OfAsked, are_accepted, plain_name}
+use Rattle.host_keys.specs.Hosts.{AreForHosts, HasOtherField, HasTrustedKey, HostCheck, IsGoodFor, IsHostKey, IsKnownBy, IsSaid, IsSettled, IsTrustedByKey, IsTrustedCertificate, IsTrustedKey, IsUnread, IsVerdictOfSigned, OfAsked, are_accepted, login_of, plain_name}
+use Rattle.host_keys.specs.HeldHosts.{RanOut, SayTheSame, held_login}
+use Rattle.host_keys.specs.declared.host_check.HostCheck as code
 use Rattle.host_keys.specs.declared.refusal.HostRefusal.{HostRefusal}
 use Rattle.host_keys.specs.declared.refusal.HostRefusal.TheVariants as refusal
 
@@ -78,6 +80,17 @@ HostKeys = IsHostKey login (λ key. false) ed25519_key
     × OfAsked login (λ it. it.host ≡ codes "H.Example")
     × ¬ OfAsked (record login { host = [] }) (λ it. Unit {0})
     × ¬ OfAsked (record login { port = 0 }) (λ it. Unit {0})
+
+-- ---- held lines
+
+-- No held line changes nothing. Lines say the same as themselves, and no lines not what the host's
+-- line says, but where nothing can be asked.
+abbrev pub HeldLines : Type 0
+HeldLines = ((l : code.HostCheck) → held_login l [] hmac_sha1 ≡ login_of l hmac_sha1)
+    × SayTheSame login login.lines
+    × ¬ SayTheSame login []
+    × SayTheSame (record login { port = 0 }) []
+    × ((l : code.HostCheck) → ¬ RanOut l refusal.Unknown)
 
 -- ---- who signs
 

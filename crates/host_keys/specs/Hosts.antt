@@ -6,7 +6,7 @@ use Rattle.openssh_limits.specs.Keys.{openssh_accepts_key}
 use Rattle.openssh_limits.specs.Read.{AreReadPrincipals}
 use Rattle.std.specs.List.{flat_map}
 use Rattle.std.specs.Prelude.{◌≡◌, ◌≢◌, ◌⊎◌, ℕ, List, [], ◌∷◌, Bool, ◌&&◌, false, IsTrue, Some}
-use Rattle.sshkey_addresses.specs.AskedHosts.{IsAsked}
+use Rattle.sshkey_matching.specs.AskedHosts.{IsAsked}
 use Rattle.sshkey_cert.specs.Validity.{IsSigned, refusal_of}
 use Rattle.sshkey_entries.specs.Fields.{filled_lines}
 use Rattle.sshkey_entries.specs.HostNames.{known_name, standard_port}

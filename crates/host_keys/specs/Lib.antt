@@ -1,3 +1,4 @@
 pub mod Hosts
 pub mod Answers
 pub mod Examples
+pub mod HeldHosts

@@ -1,14 +1,14 @@
 //! Under which name a host is asked about.
 
 ghost use Rattle.std.specs.Prelude.{◌≡◌, ℕ, List, MatchResult};
-ghost use Rattle.sshkey_addresses.specs.AskedHosts.{IsAsked, IsHostFault, asked_name};
-ghost use Rattle.sshkey_addresses.specs.declared.host.HostFault.{HostFault};
+ghost use Rattle.sshkey_matching.specs.AskedHosts.{IsAsked, IsHostFault, asked_name};
+ghost use Rattle.sshkey_matching.specs.declared.host.HostFault.{HostFault};
 ghost use Rattle.host_keys.specs.Answers.{IsRefusalForHost};
 ghost use Rattle.host_keys.specs.Hosts.{login_of};
 
 use crate::host_check::HostCheck;
 use crate::refusal::HostRefusal;
-use sshkey_addresses::{AskedHost, asked_host};
+use sshkey_matching::{AskedHost, asked_host};
 use std::alloc::Global;
 
 impl HostCheck<'_> {

@@ -1,7 +1,7 @@
 //! By what a host that shows a certificate is known.
 
 ghost use Rattle.std.specs.Prelude.{◌≡◌, ◌≢◌, ◌⊎◌, ◌↔◌, IfErr, IsOk, IsTrue, map, string_bytes, true};
-ghost use Rattle.sshkey_addresses.specs.Likeness.{is_like_address};
+ghost use Rattle.sshkey_matching.specs.Likeness.{is_like_address};
 ghost use Rattle.sshkey_cert.specs.CertificateValues.{certificate_of};
 ghost use Rattle.sshkey_cert.specs.Validity.{FindsRefusal};
 ghost use Rattle.sshkey_keys.specs.Keys.{key_of};
@@ -9,7 +9,7 @@ ghost use Rattle.sshkey_model.specs.Certificates.{IsCertificate, normal_certific
 ghost use Rattle.sshkey_model.specs.Keys.{normal_key};
 ghost use Rattle.sshkey_model.specs.Parts.{BoxesFit, flat};
 ghost use Rattle.sshkey_model.specs.Refusals.{first_refusal_for};
-ghost use Rattle.sshkey_padding.specs.Padding.{padding};
+ghost use Rattle.openssh_limits.specs.Padding.{padding};
 ghost use Rattle.host_keys.specs.Answers.{AsksOf, IsWhyNoCertificate, IsWhyUnknown, KnownExactly, OkExactly, RefusesAsked, RefusesHostCertificate};
 ghost use Rattle.host_keys.specs.Hosts.{AreForHosts, HasHostFields, HasOtherField, IsBadFor, IsGoodFor, IsHostCertificate, IsKnownBy, IsTrustedCertificate, OfAsked, are_accepted, lines_of, login_of, plain_name, signers};
 ghost use Rattle.host_keys.specs.declared.refusal.HostRefusal.TheVariants as refusal;
@@ -19,17 +19,15 @@ use crate::host_check::HostCheck;
 use crate::known_by::KnownBy;
 use crate::refusal::{HostRefusal, answer};
 use crate::verdict::signed_verdict;
-use openssh_limits::{openssh_accepts_key, openssh_reads_principals, openssh_reads_text};
+use openssh_limits::{Padding, openssh_accepts_key, openssh_reads_principals, openssh_reads_text};
 use sshkey_base::certificate::Field;
 use sshkey_base::{Error, HashAlg};
 use sshkey_cert::laws::one_certificate;
-use sshkey_cert::{Certificate, CertificateRefusal};
-use sshkey_cert_form::is_normal_form;
+use sshkey_cert::{Certificate, CertificateRefusal, is_normal_form};
 use sshkey_keys::{KeyData, RawVerifier};
 use sshkey_known_hosts::HostHasher;
 use sshkey_krl::Revocations;
 use sshkey_model::laws::key_fits;
-use sshkey_padding::Padding;
 use std::alloc::Global;
 
 /// Says by what the host is known that shows a certificate, in its bytes. It is by `Authority` if
@@ -46,7 +44,7 @@ use std::alloc::Global;
 ///   ssh asks it too.
 ///
 /// So one that lists the name with capitals alone is not the host's, and one that lists an address in
-/// another text than the canonical one is not that address's (`sshkey_addresses::asked_host`). One
+/// another text than the canonical one is not that address's (`sshkey_matching::asked_host`). One
 /// that lists nobody is no host's, as ssh(1) has it since 10.3; before, it was each host's of its
 /// authority.
 ///
@@ -76,7 +74,7 @@ use std::alloc::Global;
 ///
 /// So the verifier is asked only about a certificate by an authority of the host, or one of a key
 /// that is the host's. It is asked about an RSA signature with the zeros in front that the authority
-/// left out, as ssh(1) verifies it (`sshkey_padding::Padding`).
+/// left out, as ssh(1) verifies it (`openssh_limits::Padding`).
 ///
 /// If it would refuse a host at another port than 22 with `Unknown`, it asks, as ssh(1) does, all
 /// the texts about the host's plain name.

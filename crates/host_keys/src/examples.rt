@@ -1,6 +1,6 @@
 //! Worked examples of the definitions, on both sides of each edge.
 
-ghost use Rattle.host_keys.specs.Examples.{AnswersGiven, Authorities, BothReasons, CertifiedKeys, Fields, FirstFields, FirstUnread, HostKeys, Names, Principals, Reasons, SignedKeys, Trust, Unaccepted, UnknownReasons, Ways};
+ghost use Rattle.host_keys.specs.Examples.{AnswersGiven, Authorities, BothReasons, CertifiedKeys, Fields, FirstFields, FirstUnread, HeldLines, HostKeys, Names, Principals, Reasons, SignedKeys, Trust, Unaccepted, UnknownReasons, Ways};
 
 /// By which name a host is asked about.
 pub fn names()
@@ -80,4 +80,9 @@ pub fn unknown_reasons()
 /// Which field is wrong first.
 pub fn first_fields()
     ensures { FirstFields }
+{}
+
+/// Lines that are held.
+pub fn held_lines()
+    ensures { HeldLines }
 {}

@@ -8,7 +8,7 @@ pub struct HostCheck<'a> {
     /// one file alone may list a key that another file revokes, or has changed at that port.
     pub texts: &'a [&'a [u8]],
     /// The name or the address of the host, as the user typed it, without brackets. Of an address its
-    /// canonical text is asked (`sshkey_addresses::asked_host`). What stands in place of the name, as
+    /// canonical text is asked (`sshkey_matching::asked_host`). What stands in place of the name, as
     /// ssh's `HostKeyAlias`, is asked alone, at port 22.
     pub host: &'a str,
     /// The port, which is not 0.

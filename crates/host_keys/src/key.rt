@@ -1,7 +1,7 @@
 //! Whether a key is the host's.
 
 ghost use Rattle.std.specs.Prelude.{◌≡◌, IfErr, true};
-ghost use Rattle.sshkey_addresses.specs.Likeness.{is_like_address};
+ghost use Rattle.sshkey_matching.specs.Likeness.{is_like_address};
 ghost use Rattle.sshkey_keys.specs.Keys.{key_of};
 ghost use Rattle.host_keys.specs.Answers.{AsksOf, IsWhyNoKey, OkExactly, RefusesHostKey};
 ghost use Rattle.host_keys.specs.Hosts.{IsHostKey, IsTrustedKey, lines_of, login_of};
@@ -22,7 +22,7 @@ use std::alloc::Global;
 /// (ssh_config(5)), must not revoke it either, and ssh(1) has to accept its kind and size
 /// (`openssh_limits::openssh_accepts_key`).
 ///
-/// An address is asked about in its canonical text (`sshkey_addresses::asked_host`).
+/// An address is asked about in its canonical text (`sshkey_matching::asked_host`).
 ///
 /// Unless memory runs out, it fails with the first of these that fits:
 /// - `Host`: the port is 0, the host is empty, or it is like an address and has no text as one;

@@ -5,10 +5,10 @@ ghost use Rattle.sshkey_base.specs.declared.error.Error.TheVariants.{Memory};
 ghost use Rattle.host_keys.specs.Answers.{IsRefusalFor, IsRefusalForHost, answer_of, comes_first, is_final, of_both, verdict_answer};
 ghost use Rattle.host_keys.specs.declared.refusal.HostRefusal.TheVariants.{Unknown};
 
-use sshkey_addresses::HostFault;
 use sshkey_base::Error;
 use sshkey_cert::CertificateRefusal;
 use sshkey_known_hosts::Verdict;
+use sshkey_matching::HostFault;
 use std::alloc::AllocError;
 
 /// Why what a host shows is not taken for the host's.

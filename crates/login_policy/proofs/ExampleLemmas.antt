@@ -7,7 +7,7 @@ use Rattle.std.proofs.lemmas.Bool.Decides.{Decides-by_and, Decides-eqb, Decides-
 use Rattle.std.proofs.lemmas.List.Elements.{All-nil}
 use Rattle.std.proofs.lemmas.Slice.Eq.{bytes_eq-Decides}
 use Rattle.openssh_limits.specs.Read.{AreReadPrincipals}
-use Rattle.sshkey_addresses.specs.SourceAddresses.{IsNetworks}
+use Rattle.sshkey_matching.specs.SourceAddresses.{IsNetworks}
 use Rattle.sshkey_krl.specs.Revocations.{is_certificate_revoked}
 use Rattle.sshkey_model.specs.CertificateExamples.{authority}
 use Rattle.sshkey_model.specs.Fingerprints.{fingerprint}
@@ -61,10 +61,9 @@ no_networks value none known = elim known [
 
 -- ---- a login
 
-pub right : (user : List ℕ) (principals : List (List ℕ)) (end_ : ℕ) (options : List CertificateOption) → user ≢ [] → principals ≢ [] → AreReadPrincipals principals → All IsKnownOption options → HasRightFields user ed25519_key 0 (of_fields (record fields { valid_principals = principals; valid_before = end_; critical_options = options }))
+pub right : (user : List ℕ) (principals : List (List ℕ)) (end_ : ℕ) (options : List CertificateOption) → user ≢ [] → principals ≢ [] → AreReadPrincipals principals → All IsKnownOption options → HasRightFields user 0 (of_fields (record fields { valid_principals = principals; valid_before = end_; critical_options = options }))
 right user principals end_ options named some read known = record {
   for_users = refl;
-  own_key = refl;
   accepted = refl;
   known = known;
   plain = All-nil IsPlainExtension;
@@ -78,5 +77,5 @@ valid principals end_ time options begun lasts small = record { signature = refl
 pub two_names : AreReadPrincipals fields.valid_principals
 two_names = record { few = omega arith; no_zero = all_free fields.valid_principals refl }
 
-pub let_in : (l : Login) (f : SignedFields) → HasRightFields l.user l.offered l.least_rsa_bits (of_fields f) → Contains f.valid_principals l.user → is_certificate_revoked l.revokes (of_fields f) ≡ false → IsValid l.accepts l.authorities l.time (of_fields f) → IsAllowedFrom (value_of source_address f.critical_options) l.client → IsLetIn l f
+pub let_in : (l : Login) (f : SignedFields) → HasRightFields l.user l.least_rsa_bits (of_fields f) → Contains f.valid_principals l.user → is_certificate_revoked l.revokes (of_fields f) ≡ false → IsValid l.accepts l.authorities l.time (of_fields f) → IsAllowedFrom (value_of source_address f.critical_options) l.client → IsLetIn l f
 let_in l f right listed unrevoked valid from = record { fields = right; listed = listed; unrevoked = unrevoked; valid = valid; from = from }

@@ -6,7 +6,7 @@ use Rattle.std.specs.List.{list_any}
 use Rattle.std.proofs.lemmas.List.Elements.{All-cons, All-head, All-tail}
 use Rattle.std.proofs.lemmas.Map.Views.{Contains-from_any}
 use Rattle.std.proofs.lemmas.Slice.Eq.{bytes_eq-Decides}
-use Rattle.sshkey_addresses.specs.SourceAddresses.{IsNetworks}
+use Rattle.sshkey_matching.specs.SourceAddresses.{IsNetworks}
 use Rattle.sshkey_model.specs.Options.{CertificateOption}
 use Rattle.login_policy.specs.KnownOptions.{Addresses, Command, IsArgument, IsEmptyIfFlag, IsKnownOption, Verification, flags, force_command, source_address, verify_required}
 

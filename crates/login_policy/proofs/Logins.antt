@@ -3,7 +3,7 @@ use Rattle.std.proofs.Common.{◌≡◌, ◌≢◌, ◌↔◌, ◌==◌, ◌++�
 use Rattle.std.proofs.lemmas.Bool.Decides.{nat_tests}
 use Rattle.std.specs.Prelude.{Contains, String, is_some, not, string_bytes}
 use Rattle.std.specs.declared.net.ip_addr.IpAddr.{IpAddr}
-use Rattle.sshkey_addresses.specs.SourceAddresses.{MayComeFrom}
+use Rattle.sshkey_matching.specs.SourceAddresses.{MayComeFrom}
 use Rattle.sshkey_base.specs.Reading.{NoSpelling}
 use Rattle.sshkey_base.specs.declared.error.Error.{Error}
 use Rattle.sshkey_base.specs.declared.error.Error.TheVariants as error
@@ -14,7 +14,6 @@ use Rattle.sshkey_cert.specs.declared.certificate.Certificate as code
 use Rattle.sshkey_krl.specs.Revocations.{is_certificate_revoked}
 use Rattle.sshkey_model.specs.Certificates.{Certificate, normal_certificate, SpellsCertificate}
 use Rattle.sshkey_model.specs.Fingerprints.{Fingerprint}
-use Rattle.sshkey_model.specs.Keys.{Key}
 use Rattle.sshkey_model.specs.OptionMaps.{value_of}
 use Rattle.sshkey_model.specs.Parts.{flat}
 use Rattle.sshkey_model.specs.Principals.{Allows, IsValidFor}
@@ -24,7 +23,7 @@ use Rattle.sshkey_model.specs.Refusals as model
 use Rattle.login_policy.specs.KnownOptions.{source_address}
 use Rattle.login_policy.specs.Logins.{HasRightFields, IsAllowedFrom, IsGrantOf, IsLogin, LetsIn, Login}
 use Rattle.login_policy.specs.Principals.{AreForUser}
-use Rattle.login_policy.specs.Refusals.{ForHosts, HasWrongField, FromElsewhere, IsRefusalFor, IsRevoked, IsUntrusted, NeedsJudging, NeedsMemory, NotSigned, NotValid, OtherAuthority, OtherExtension, OtherKey, OtherKeyId, OtherPrincipals, RefusesSpelling, Unaccepted, UnknownOption, refusal_but_signature}
+use Rattle.login_policy.specs.Refusals.{ForHosts, HasWrongField, FromElsewhere, IsRefusalFor, IsRevoked, IsUntrusted, NeedsJudging, NeedsMemory, NotSigned, NotValid, OtherAuthority, OtherExtension, OtherKeyId, OtherPrincipals, RefusesSpelling, Unaccepted, UnknownOption, refusal_but_signature}
 use Rattle.login_policy.specs.declared.client.Client.TheVariants.{At, LeftToCaller, Unknown}
 use Rattle.login_policy.specs.declared.grant.Grant.{Grant}
 use Rattle.login_policy.specs.declared.refusal.LoginRefusal.{LoginRefusal}
@@ -124,23 +123,21 @@ untrusted law login c r (NotValid by unrevoked w refused) lets = let none = none
 untrusted law login c r (FromElsewhere unrevoked none elsewhere) lets = elsewhere lets.from
 untrusted law login c r (NotSigned unrevoked none from unsigned) lets = let signed : is_signed login.accepts c ≡ true = lets.valid.signature in cc
 
-wrong_field : (user : List ℕ) (offered : Key) (least : ℕ) (c : Certificate) (r : LoginRefusal) → HasWrongField user offered least c r → HasRightFields user offered least c → ⊥
-wrong_field user offered least c r (ForHosts other) right = other right.for_users
-wrong_field user offered least c r (OtherKey users other) right = other right.own_key
-wrong_field user offered least c r (Unaccepted users own other) right = let accepted = right.accepted in cc
-wrong_field user offered least c r (UnknownOption users own accepted other) right = other right.known
-wrong_field user offered least c r (OtherExtension users own accepted known other) right = other right.plain
-wrong_field user offered least c r (OtherKeyId users own accepted known plain other) right = other right.key_id
-wrong_field user offered least c r (OtherPrincipals users own accepted known plain id other) right = other right.principals
+wrong_field : (user : List ℕ) (least : ℕ) (c : Certificate) (r : LoginRefusal) → HasWrongField user least c r → HasRightFields user least c → ⊥
+wrong_field user least c r (ForHosts other) right = other right.for_users
+wrong_field user least c r (Unaccepted users other) right = let accepted = right.accepted in cc
+wrong_field user least c r (UnknownOption users accepted other) right = other right.known
+wrong_field user least c r (OtherExtension users accepted known other) right = other right.plain
+wrong_field user least c r (OtherKeyId users accepted known plain other) right = other right.key_id
+wrong_field user least c r (OtherPrincipals users accepted known plain id other) right = other right.principals
 
-pub field_not_memory : (user : List ℕ) (offered : Key) (least : ℕ) (c : Certificate) (r : LoginRefusal) → HasWrongField user offered least c r → r ≢ Memory
-field_not_memory user offered least c r (ForHosts other) = λ memory. cc
-field_not_memory user offered least c r (OtherKey users other) = λ memory. cc
-field_not_memory user offered least c r (Unaccepted users own other) = λ memory. cc
-field_not_memory user offered least c r (UnknownOption users own accepted other) = λ memory. cc
-field_not_memory user offered least c r (OtherExtension users own accepted known other) = λ memory. cc
-field_not_memory user offered least c r (OtherKeyId users own accepted known plain other) = λ memory. cc
-field_not_memory user offered least c r (OtherPrincipals users own accepted known plain id other) = λ memory. cc
+pub field_not_memory : (user : List ℕ) (least : ℕ) (c : Certificate) (r : LoginRefusal) → HasWrongField user least c r → r ≢ Memory
+field_not_memory user least c r (ForHosts other) = λ memory. cc
+field_not_memory user least c r (Unaccepted users other) = λ memory. cc
+field_not_memory user least c r (UnknownOption users accepted other) = λ memory. cc
+field_not_memory user least c r (OtherExtension users accepted known other) = λ memory. cc
+field_not_memory user least c r (OtherKeyId users accepted known plain other) = λ memory. cc
+field_not_memory user least c r (OtherPrincipals users accepted known plain id other) = λ memory. cc
 
 -- what the law says of two spellings
 abbrev pub OneCertificate : Type 0
@@ -154,7 +151,7 @@ refused law one login c r spelled why is =
     elim why [
       | inl other ↦ other.0 (is.normal ∙ ap (λ (d : Certificate). flat (normal_certificate d)) (sym same))
       | inr rest ↦ elim rest.1 [
-        | inl wrong ↦ wrong_field login.user login.offered login.least_rsa_bits c r wrong lets.fields
+        | inl wrong ↦ wrong_field login.user login.least_rsa_bits c r wrong lets.fields
         | inr other ↦ untrusted law login c r other.1 lets
       ]
     ]
@@ -165,7 +162,7 @@ no_login login none is = none is.certificate is.spelled
 
 -- ---- what is granted
 
-pub granted : (login : Login) (c : Certificate) (g : Grant) → SpellsCertificate c login.blob → login.blob ≡ flat (normal_certificate c) → HasRightFields login.user login.offered login.least_rsa_bits c → is_certificate_revoked login.revokes c ≡ false → IsValidFor login.accepts login.authorities login.time login.user c → IsAllowedFrom (value_of source_address c.signed.critical_options) login.client → IsGrantOf c g → (is : IsLogin login) × (is.certificate ≡ c) × IsGrantOf is.certificate g
+pub granted : (login : Login) (c : Certificate) (g : Grant) → SpellsCertificate c login.blob → login.blob ≡ flat (normal_certificate c) → HasRightFields login.user login.least_rsa_bits c → is_certificate_revoked login.revokes c ≡ false → IsValidFor login.accepts login.authorities login.time login.user c → IsAllowedFrom (value_of source_address c.signed.critical_options) login.client → IsGrantOf c g → (is : IsLogin login) × (is.certificate ≡ c) × IsGrantOf is.certificate g
 granted login c g spelled normal right unrevoked valid from is = (record { certificate = c; spelled = spelled; normal = normal; lets_in = record { fields = right; listed = listed c login.user right.principals valid.allowed; unrevoked = unrevoked; valid = valid.valid; from = from } }, refl, is)
 
 -- ---- memory

@@ -71,11 +71,6 @@ pub answers_decide : AnswersDecide
 unfolding pends
 answers_decide l = (λ is. (pends l is, is.lets_in.valid.signature), λ both. lets l both.0 both.1)
 
--- what an answer decides is what each verifier decides that answers so
-pub by_answer : (accepts : Question → Bool) (p : Pending) (b : Bool) (result : Result Grant LoginRefusal) → Decides p b result → is_signed accepts (certificate_in p) ≡ b → DecidesBy accepts p result
-by_answer accepts p true result is signed = subst (DecidesBy accepts p) (sym is) (refl, signed)
-by_answer accepts p false result is signed = subst (DecidesBy accepts p) (sym is) (λ other. (refl, signed))
-
 -- ---- what is refused
 
 untrusted : (l : Login) (c : Certificate) (r : LoginRefusal) → IsUntrusted (unasked l) c r → IsUntrusted l c r

@@ -48,7 +48,6 @@ login = record {
   authorities = fingerprint Sha256 authority ∷ [];
   time = 100;
   user = codes "alice";
-  offered = ed25519_key;
   blob = [];
   least_rsa_bits = 0;
   client = Unknown;
@@ -60,14 +59,13 @@ IsLetIn l f = LetsIn l (of_fields f)
 abbrev pub dsa_key : Key
 dsa_key = Dsa (record { p = 0x17 ∷ []; q = 0x0b ∷ []; g = 4 ∷ []; y = 8 ∷ [] })
 
--- Another type, another key, a key id with a zero byte; a DSA key, and an RSA key of 8 bits.
+-- Another type, and a key id with a zero byte; a DSA key, and an RSA key of 8 bits.
 abbrev pub Fields : Type 0
 Fields = IsLetIn login fields
     × ¬ IsLetIn login (record fields { certificate_type = Host })
-    × ¬ IsLetIn login (record fields { key = authority })
     × ¬ IsLetIn login (record fields { key_id = 0x69 ∷ 0 ∷ 0x64 ∷ [] })
-    × ¬ IsLetIn (record login { offered = dsa_key }) (record fields { key = dsa_key })
-    × ¬ IsLetIn (record login { offered = rsa_key }) (record fields { key = rsa_key })
+    × ¬ IsLetIn login (record fields { key = dsa_key })
+    × ¬ IsLetIn login (record fields { key = rsa_key })
 
 -- The names of users are compared with case. A certificate that lists nobody is for nobody, and an
 -- empty name is no user's, also if it stands there.

@@ -1,7 +1,7 @@
 -- The options of user certificates that the policy knows, and the values that sshd(8) reads of them
 -- (PROTOCOL.certkeys).
 use Rattle.std.specs.Prelude.{◌≡◌, ◌≢◌, ℕ, List, [], ◌∷◌, Contains, codes}
-use Rattle.sshkey_addresses.specs.SourceAddresses.{IsNetworks}
+use Rattle.sshkey_matching.specs.SourceAddresses.{IsNetworks}
 use Rattle.sshkey_model.specs.Lines.{IsWithout}
 use Rattle.sshkey_model.specs.Options.{CertificateOption}
 

@@ -1,10 +1,9 @@
 -- Who may log in with a certificate, and what the login is bound to (PROTOCOL.certkeys;
 -- sshd_config(5), TrustedUserCAKeys and RevokedKeys).
 use Rattle.std.specs.Prelude.{◌≡◌, ◌≢◌, ℕ, List, Bool, not, ◌&&◌, All, Contains, IsTrue, Result, Ok, Err, Option, Some, None, false, is_some, option_map, string_bytes}
-use Rattle.sshkey_addresses.specs.SourceAddresses.{ComesFrom, IsNetworks}
+use Rattle.sshkey_matching.specs.SourceAddresses.{ComesFrom, IsNetworks}
 use Rattle.sshkey_cert.specs.Validity.{fingerprints_of}
 use Rattle.sshkey_keys.specs.Fingerprints.{IsFingerprint}
-use Rattle.sshkey_keys.specs.Keys.{key_of}
 use Rattle.sshkey_krl.specs.Revocation as krl
 use Rattle.sshkey_krl.specs.Revocations.{is_certificate_revoked}
 use Rattle.sshkey_model.specs.Certificates.{Certificate, User, normal_certificate, SpellsCertificate}
@@ -37,27 +36,25 @@ pub record Login : Type 0 where
   pub authorities : List Fingerprint
   pub time : ℕ
   pub user : List ℕ
-  pub offered : Key
   pub blob : List ℕ
   pub least_rsa_bits : ℕ
   pub client : Client
 
 -- the login of a call, of its verifier and of who says what is revoked
 abbrev pub login_of : code.Login → (Question → Bool) → (List ℕ → krl.CertificateIdentity → Bool) → Login
-login_of l accepts revokes = record { accepts = accepts; revokes = revokes; authorities = fingerprints_of l.authorities.now; time = l.unix_timestamp; user = l.user.now; offered = key_of l.offered.now; blob = l.certificate.now; least_rsa_bits = l.least_rsa_bits; client = l.client }
+login_of l accepts revokes = record { accepts = accepts; revokes = revokes; authorities = fingerprints_of l.authorities.now; time = l.unix_timestamp; user = l.user.now; blob = l.certificate.now; least_rsa_bits = l.least_rsa_bits; client = l.client }
 
--- sshd accepts the offered key, of at least that size, and the key that signs for it, of any size by
--- which it verifies (sshd_config(5), RequiredRSASize and CASignatureAlgorithms).
+-- sshd accepts the key that is certified, of at least that size, and the key that signs for it, of any
+-- size by which it verifies (sshd_config(5), RequiredRSASize and CASignatureAlgorithms).
 abbrev pub are_accepted : ℕ → Key → Key → Bool
-are_accepted least_rsa_bits offered authority = openssh_accepts_key least_rsa_bits offered && openssh_accepts_key 0 authority
+are_accepted least_rsa_bits certified authority = openssh_accepts_key least_rsa_bits certified && openssh_accepts_key 0 authority
 
--- The fields are those of a certificate for users, of the offered key, which is accepted, as is the
--- key that signed, with only critical options that are known, nothing in a flag, and texts and
--- principals that sshd reads.
-pub record HasRightFields (user : List ℕ) (offered : Key) (least_rsa_bits : ℕ) (c : Certificate) : Type 0 where
+-- The fields are those of a certificate for users, whose key is accepted, as is the key that signed,
+-- with only critical options that are known, nothing in a flag, and texts and principals that sshd
+-- reads.
+pub record HasRightFields (user : List ℕ) (least_rsa_bits : ℕ) (c : Certificate) : Type 0 where
   pub for_users : c.signed.certificate_type ≡ User
-  pub own_key : c.signed.key ≡ offered
-  pub accepted : IsTrue (are_accepted least_rsa_bits offered c.signed.signature_key)
+  pub accepted : IsTrue (are_accepted least_rsa_bits c.signed.key c.signed.signature_key)
   pub known : All IsKnownOption c.signed.critical_options
   pub plain : All IsPlainExtension c.signed.extensions
   pub key_id : IsWithout 0 c.signed.key_id
@@ -71,11 +68,10 @@ IsAllowedFrom (Some list) (At address) = IsNetworks list × ComesFrom list addre
 IsAllowedFrom (Some list) Unknown = ⊥
 IsAllowedFrom (Some list) LeftToCaller = Unit {0}
 
--- The certificate lets the user in who holds the offered key: it has the right fields, lists the
--- user, is not revoked, is valid at that time by one of the authorities, and lets the client in from
--- where it is.
+-- The certificate lets the user in who holds its key: it has the right fields, lists the user, is not
+-- revoked, is valid at that time by one of the authorities, and lets the client in from where it is.
 pub record LetsIn (login : Login) (c : Certificate) : Type 0 where
-  pub fields : HasRightFields login.user login.offered login.least_rsa_bits c
+  pub fields : HasRightFields login.user login.least_rsa_bits c
   pub listed : Contains c.signed.valid_principals login.user
   pub unrevoked : is_certificate_revoked login.revokes c ≡ false
   pub valid : IsValid login.accepts login.authorities login.time c

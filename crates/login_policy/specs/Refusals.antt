@@ -3,12 +3,11 @@ use Rattle.std.specs.Prelude.{◌≡◌, ◌≢◌, ◌⊎◌, ℕ, List, All, O
 use Rattle.sshkey_cert.specs.Validity.{refusal_of}
 use Rattle.sshkey_cert.specs.declared.certificate.refusal.CertificateRefusal.{CertificateRefusal}
 use Rattle.sshkey_cert.specs.declared.certificate.refusal.CertificateRefusal.TheVariants.{Authority, Signature}
-use Rattle.sshkey_cert_form.specs.Faults.{IsFaultOf}
+use Rattle.sshkey_cert.specs.Faults.{IsFaultOf}
 use Rattle.sshkey_keys.specs.Fingerprints.{IsShort}
 use Rattle.sshkey_krl.specs.Revocations.{is_certificate_revoked}
 use Rattle.sshkey_model.specs.Certificates.{Certificate, User, normal_certificate, certificate_format, SpellsCertificate}
 use Rattle.sshkey_model.specs.Fingerprints.{Fingerprint}
-use Rattle.sshkey_model.specs.Keys.{Key}
 use Rattle.sshkey_model.specs.Lines.{IsWithout}
 use Rattle.sshkey_model.specs.OptionMaps.{value_of}
 use Rattle.sshkey_model.specs.Parts.{flat}
@@ -33,14 +32,13 @@ abbrev pub invalid : Field → LoginRefusal
 invalid f = refusal.Certificate (error.CertificateFieldInvalid f)
 
 -- The refusal names the first field that is wrong, or says that a key is not accepted.
-pub data HasWrongField (user : List ℕ) (offered : Key) (least_rsa_bits : ℕ) (c : Certificate) : LoginRefusal → Type 0 where
-  ForHosts : c.signed.certificate_type ≢ User → HasWrongField user offered least_rsa_bits c (invalid field.CertType)
-  OtherKey : c.signed.certificate_type ≡ User → c.signed.key ≢ offered → HasWrongField user offered least_rsa_bits c (invalid field.PublicKey)
-  Unaccepted : c.signed.certificate_type ≡ User → c.signed.key ≡ offered → are_accepted least_rsa_bits offered c.signed.signature_key ≡ false → HasWrongField user offered least_rsa_bits c refusal.UnacceptedKey
-  UnknownOption : c.signed.certificate_type ≡ User → c.signed.key ≡ offered → IsTrue (are_accepted least_rsa_bits offered c.signed.signature_key) → ¬ All IsKnownOption c.signed.critical_options → HasWrongField user offered least_rsa_bits c (invalid field.CriticalOptions)
-  OtherExtension : c.signed.certificate_type ≡ User → c.signed.key ≡ offered → IsTrue (are_accepted least_rsa_bits offered c.signed.signature_key) → All IsKnownOption c.signed.critical_options → ¬ All IsPlainExtension c.signed.extensions → HasWrongField user offered least_rsa_bits c (invalid field.Extensions)
-  OtherKeyId : c.signed.certificate_type ≡ User → c.signed.key ≡ offered → IsTrue (are_accepted least_rsa_bits offered c.signed.signature_key) → All IsKnownOption c.signed.critical_options → All IsPlainExtension c.signed.extensions → ¬ IsWithout 0 c.signed.key_id → HasWrongField user offered least_rsa_bits c (invalid field.KeyId)
-  OtherPrincipals : c.signed.certificate_type ≡ User → c.signed.key ≡ offered → IsTrue (are_accepted least_rsa_bits offered c.signed.signature_key) → All IsKnownOption c.signed.critical_options → All IsPlainExtension c.signed.extensions → IsWithout 0 c.signed.key_id → ¬ AreForUser user c.signed.valid_principals → HasWrongField user offered least_rsa_bits c (invalid field.ValidPrincipals)
+pub data HasWrongField (user : List ℕ) (least_rsa_bits : ℕ) (c : Certificate) : LoginRefusal → Type 0 where
+  ForHosts : c.signed.certificate_type ≢ User → HasWrongField user least_rsa_bits c (invalid field.CertType)
+  Unaccepted : c.signed.certificate_type ≡ User → are_accepted least_rsa_bits c.signed.key c.signed.signature_key ≡ false → HasWrongField user least_rsa_bits c refusal.UnacceptedKey
+  UnknownOption : c.signed.certificate_type ≡ User → IsTrue (are_accepted least_rsa_bits c.signed.key c.signed.signature_key) → ¬ All IsKnownOption c.signed.critical_options → HasWrongField user least_rsa_bits c (invalid field.CriticalOptions)
+  OtherExtension : c.signed.certificate_type ≡ User → IsTrue (are_accepted least_rsa_bits c.signed.key c.signed.signature_key) → All IsKnownOption c.signed.critical_options → ¬ All IsPlainExtension c.signed.extensions → HasWrongField user least_rsa_bits c (invalid field.Extensions)
+  OtherKeyId : c.signed.certificate_type ≡ User → IsTrue (are_accepted least_rsa_bits c.signed.key c.signed.signature_key) → All IsKnownOption c.signed.critical_options → All IsPlainExtension c.signed.extensions → ¬ IsWithout 0 c.signed.key_id → HasWrongField user least_rsa_bits c (invalid field.KeyId)
+  OtherPrincipals : c.signed.certificate_type ≡ User → IsTrue (are_accepted least_rsa_bits c.signed.key c.signed.signature_key) → All IsKnownOption c.signed.critical_options → All IsPlainExtension c.signed.extensions → IsWithout 0 c.signed.key_id → ¬ AreForUser user c.signed.valid_principals → HasWrongField user least_rsa_bits c (invalid field.ValidPrincipals)
 
 -- what is wrong first but the signature: the authority, the time or the user's name
 abbrev pub refusal_but_signature : Login → Certificate → Option model.Refusal
@@ -57,7 +55,7 @@ pub data IsUntrusted (login : Login) (c : Certificate) : LoginRefusal → Type 0
 
 -- The refusal says what is wrong first with a certificate in its normal form.
 abbrev pub RefusesCertificate : Login → Certificate → LoginRefusal → Type 0
-RefusesCertificate login c r = HasWrongField login.user login.offered login.least_rsa_bits c r ⊎ (HasRightFields login.user login.offered login.least_rsa_bits c × IsUntrusted login c r)
+RefusesCertificate login c r = HasWrongField login.user login.least_rsa_bits c r ⊎ (HasRightFields login.user login.least_rsa_bits c × IsUntrusted login c r)
 
 -- The blob spells the certificate: it is not its normal form; or it is, and it is refused.
 abbrev pub RefusesSpelling : Login → Certificate → LoginRefusal → Type 0

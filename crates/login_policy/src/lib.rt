@@ -2,6 +2,13 @@
 //!
 //! It names the crates for certificates, revocations and addresses, and nothing of private keys, and
 //! is proved from their contracts. Copy it and change it.
+//!
+//! # What is proved, tested and trusted
+//!
+//! It is proved from public contracts alone, in both directions: a body that always refused, but
+//! for `Memory`, would not be. `log_in` may answer `Memory` only for what is read, or long, or made
+//! by a given authority. `checks/callers` and `checks/newer` compare it with OpenSSH, with
+//! signatures that another library verifies. The verifier that it is given is trusted.
 #![tactic(auto)]
 
 mod authority;

@@ -3,10 +3,8 @@
 ghost use Rattle.std.specs.Prelude.{◌≡◌, ◌≢◌, true, IfErr, OnOk};
 ghost use Rattle.sshkey_cert.specs.CertificateValues.{certificate_of};
 ghost use Rattle.sshkey_cert.specs.Validity.{fingerprints_of};
-ghost use Rattle.sshkey_keys.specs.Keys.{key_of};
 ghost use Rattle.sshkey_model.specs.Certificates.{IsCertificate, SpellsCertificate};
-ghost use Rattle.sshkey_model.specs.Keys.{IsKey};
-ghost use Rattle.sshkey_padding.specs.Padding.{padding};
+ghost use Rattle.openssh_limits.specs.Padding.{padding};
 ghost use Rattle.login_policy.specs.Logins.{GrantsExactly, HasRightFields, login_of};
 ghost use Rattle.login_policy.specs.Pendings.{PendsExactly};
 ghost use Rattle.login_policy.specs.Refusals.{HasWrongField, NeedsJudging, NeedsMemory, RefusesLogin, invalid};
@@ -15,7 +13,7 @@ ghost use Rattle.login_policy.specs.declared.refusal.LoginRefusal.TheVariants.{M
 use crate::authority::validate;
 use crate::client::Client;
 use crate::grant::{Grant, grant_of};
-use crate::key::{are_accepted, is_key_of, raises_question};
+use crate::key::{are_accepted, raises_question};
 use crate::options::{are_known, are_plain, is_allowed_from};
 use crate::pending_login::Pending;
 use crate::principals::are_for;
@@ -24,9 +22,8 @@ use openssh_limits::openssh_reads_text;
 use sshkey_base::Error;
 use sshkey_base::certificate::Field;
 use sshkey_cert::laws::one_certificate;
-use sshkey_cert::{Certificate, CertificateRefusal};
-use sshkey_cert_form::is_normal_form;
-use sshkey_keys::{Fingerprint, KeyData, RawVerifier};
+use sshkey_cert::{Certificate, CertificateRefusal, is_normal_form};
+use sshkey_keys::{Fingerprint, RawVerifier};
 use sshkey_krl::Revocations;
 use sshkey_model::laws::certificates::refused_or_wanted;
 use std::alloc::Global;
@@ -39,8 +36,6 @@ pub struct Login<'a> {
     pub certificate: &'a [u8],
     /// The name of the user who is to be let in.
     pub user: &'a str,
-    /// The key under which the client signs.
-    pub offered: &'a KeyData,
     /// The time, in seconds since 1970.
     pub unix_timestamp: u64,
     /// The SHA-256 fingerprints of the keys that may sign logins. Others count for nothing.
@@ -52,10 +47,10 @@ pub struct Login<'a> {
     pub client: Client,
 }
 
-/// Lets a user in who holds the offered key, if the bytes are a certificate for users of just that
-/// key, which lists the user's name. It must be valid at that time, by one of the authorities, and
-/// not revoked, and let the client in from its address. It must be as it was signed, in its normal
-/// form. The keys, texts and options must be such as sshd(8) accepts (PROTOCOL.certkeys):
+/// Lets a user in who holds the key that is certified, if the bytes are a certificate for users,
+/// which lists the user's name. It must be valid at that time, by one of the authorities, and not
+/// revoked, and let the client in from its address. It must be as it was signed, in its normal form.
+/// The keys, texts and options must be such as sshd(8) accepts (PROTOCOL.certkeys):
 ///
 /// - no DSA key, none under a private-use name, and no RSA key of fewer bits than the login says or
 ///   of more than 16,384; a point that begins with 04; no zero byte in an application
@@ -64,7 +59,7 @@ pub struct Login<'a> {
 /// - no zero byte in the key id, a principal, or the name of an extension, and at most 256
 ///   principals;
 /// - critical options `force-command`, neither empty nor with a zero byte, `source-address`, a list
-///   of networks (`sshkey_addresses::is_source_list`), and `verify-required`, which is empty, and
+///   of networks (`sshkey_matching::is_source_list`), and `verify-required`, which is empty, and
 ///   no others;
 /// - extensions that are flags, as `permit-pty`, which are empty, and any others.
 ///
@@ -72,9 +67,8 @@ pub struct Login<'a> {
 ///
 /// - `Certificate` with an error of `Certificate::from_bytes`;
 /// - `NotNormalForm`;
-/// - `Certificate` with `CertificateFieldInvalid`: `CertType` for a certificate for hosts, and then
-///   `PublicKey` for one of another key;
-/// - `UnacceptedKey` for the offered key, or the authority's;
+/// - `Certificate` with `CertificateFieldInvalid`: `CertType` for a certificate for hosts;
+/// - `UnacceptedKey` for the key that is certified, or the authority's;
 /// - `Certificate` with `CertificateFieldInvalid`: `CriticalOptions` if an option is not known or
 ///   sshd reads no such value; `Extensions` if data stand in a flag or a name has a zero byte;
 ///   `KeyId` if the key id has one; `ValidPrincipals` if it lists no principal (such a certificate
@@ -91,15 +85,15 @@ pub struct Login<'a> {
 /// It is `pending`, and then the verifier's answer: so that is asked only where nothing else is
 /// wrong. A key that a client made and signed with never reaches it, nor an expired certificate. It
 /// is asked about an RSA signature with the zeros in front that the authority left out, as sshd(8)
-/// verifies it (`sshkey_padding::Padding`).
+/// verifies it (`openssh_limits::Padding`).
 ///
 /// Who knows of no revocation writes `NoRevocations`. Pass on what reading a list gave: an `Err`
 /// revokes every certificate.
 ///
 /// It does not ask whether a point lies on its curve: sshd(8) reads no point that does not.
 ///
-/// Whoever calls it lets nobody in before the client has signed under the offered key, and does what
-/// the grant says, the flags in a security key's signature included. The options of a line
+/// Whoever calls it lets nobody in before the client has signed under the key that is certified, and
+/// does what the grant says, the flags in a security key's signature included. The options of a line
 /// `cert-authority` of authorized_keys, by which sshd trusts an authority for one user, also bind a
 /// login: for an authority that stands there, the caller must judge them.
 pub fn log_in<R: Revocations, V: RawVerifier>(
@@ -108,7 +102,6 @@ pub fn log_in<R: Revocations, V: RawVerifier>(
     revocations: &R,
     verifier: &V,
 ) -> Result<Grant, LoginRefusal>
-    requires { IsKey (key_of login.now.offered.now) }
     ensures exactly { GrantsExactly
         (login_of login.now (padding (V.accepts verifier.now)) (R.revokes revocations.now))
         result }
@@ -132,7 +125,6 @@ pub fn pending<R: Revocations>(
     login: &Login,
     revocations: &R,
 ) -> Result<Pending, LoginRefusal>
-    requires { IsKey (key_of login.now.offered.now) }
     ensures exactly { PendsExactly
         (login_of login.now (λ _. true) (R.revokes revocations.now)) result }
     ensures refused { IfErr result (λ r. r ≢ Memory → RefusesLogin
@@ -151,8 +143,7 @@ pub fn pending_of<R: Revocations>(
     login: &Login,
     revocations: &R,
 ) -> Result<Pending, LoginRefusal>
-    requires spelled { SpellsCertificate (certificate_of certificate) login.now.certificate.now }
-    requires offered { IsKey (key_of login.now.offered.now) }
+    requires { SpellsCertificate (certificate_of certificate) login.now.certificate.now }
     ensures exactly { PendsExactly
         (login_of login.now (λ _. true) (R.revokes revocations.now)) result }
     ensures refused { IfErr result (λ r. r ≢ Memory → RefusesLogin
@@ -165,12 +156,7 @@ pub fn pending_of<R: Revocations>(
     if !is_normal_form(&certificate, login.certificate) {
         return Err(LoginRefusal::NotNormalForm);
     }
-    check_fields(
-        &certificate,
-        login.user,
-        login.offered,
-        login.least_rsa_bits,
-    )?;
+    check_fields(&certificate, login.user, login.least_rsa_bits)?;
     let authority = validate(alloc, &certificate, login, revocations)?;
     if !is_allowed_from(certificate.critical_options(), login.client) {
         return Err(LoginRefusal::Elsewhere);
@@ -186,23 +172,18 @@ pub fn pending_of<R: Revocations>(
 fn check_fields(
     certificate: &Certificate,
     user: &str,
-    offered: &KeyData,
     least_rsa_bits: u32,
 ) -> Result<(), LoginRefusal>
-    requires certificate { IsCertificate (certificate_of certificate.now) }
-    requires offered { IsKey (key_of offered.now) }
-    ensures right { OnOk result (HasRightFields user.now (key_of offered.now) least_rsa_bits
-        (certificate_of certificate.now)) }
-    ensures wrong { IfErr result (HasWrongField user.now (key_of offered.now) least_rsa_bits
-        (certificate_of certificate.now)) }
+    requires { IsCertificate (certificate_of certificate.now) }
+    ensures right { OnOk result
+        (HasRightFields user.now least_rsa_bits (certificate_of certificate.now)) }
+    ensures wrong { IfErr result
+        (HasWrongField user.now least_rsa_bits (certificate_of certificate.now)) }
 {
     if !certificate.cert_type().is_user() {
         return Err(invalid(Field::CertType));
     }
-    if !is_key_of(certificate, offered) {
-        return Err(invalid(Field::PublicKey));
-    }
-    if !are_accepted(certificate, offered, least_rsa_bits) {
+    if !are_accepted(certificate, least_rsa_bits) {
         return Err(LoginRefusal::UnacceptedKey);
     }
     if !are_known(certificate.critical_options()) {

@@ -9,8 +9,8 @@ ghost use Rattle.login_policy.specs.Logins.{IsAllowedFrom};
 
 use crate::client::Client;
 use openssh_limits::openssh_reads_text;
-use sshkey_addresses::{is_source_list, may_come_from};
 use sshkey_cert_values::OptionsMap;
+use sshkey_matching::{is_source_list, may_come_from};
 
 /// The one command that may run, whatever the client asks for.
 pub(crate) const FORCE_COMMAND: &str = "force-command";

@@ -4,14 +4,14 @@ ghost use Rattle.std.specs.Prelude.{◌≡◌, IfErr, IfOk};
 ghost use Rattle.sshkey_base.specs.Causes.{NoMemory, cause};
 ghost use Rattle.sshkey_cert.specs.Questions.{certificate_question};
 ghost use Rattle.sshkey_keys.specs.Questions.{asks};
-ghost use Rattle.sshkey_padding.specs.Padding.{padding};
+ghost use Rattle.openssh_limits.specs.Padding.{padding};
 ghost use Rattle.login_policy.specs.Pendings.{Decides, DecidesBy, certificate_in};
 
 use crate::grant::Grant;
 use crate::refusal::LoginRefusal;
+use openssh_limits::Padding;
 use sshkey_cert::{Certificate, CertificateRefusal};
 use sshkey_keys::{RawVerifier, SignatureQuestion};
-use sshkey_padding::Padding;
 use std::alloc::Global;
 
 /// A login of which all is right but the authority's signature, which nobody has looked at: nothing

@@ -7,7 +7,7 @@ use Rattle.std.specs.List.{list_any}
 use Rattle.std.specs.Str.{bytes_eq}
 use Rattle.std.proofs.lemmas.Bool.Decides.{Decides-and, Decides-eqb, Decides-like, Decides-ltb, Decides-or}
 use Rattle.std.proofs.lemmas.Slice.Eq.{bytes_eq-Decides}
-use Rattle.sshkey_patterns.proofs.Deciding.{decides_any, decides_match, matches}
+use Rattle.sshkey_matching.proofs.PatternTests.{decides_any, decides_match, matches}
 use Rattle.login_terms.specs.Questions.{IsNamed, IsPortOf, Listens, MayListen, MayOpen, Opens}
 use Rattle.login_terms.specs.Terms.{Terms}
 use Rattle.login_terms.specs.Values.{HostAndPort}

@@ -7,7 +7,7 @@ use Rattle.std.proofs.lemmas.List.{take-append-drop, take-map, drop-map, map-app
 use Rattle.std.proofs.lemmas.List.Elements.{All-nil, All-cons, All-head, All-tail}
 use Rattle.std.proofs.lemmas.Str.Ascii.{lowercase-lowercase}
 use Rattle.std.proofs.Math.Seq.{drop-append_seam, take-append_seam}
-use Rattle.sshkey_patterns.specs.Patterns.{Matches, StandsFor}
+use Rattle.sshkey_matching.specs.Patterns.{Matches, StandsFor}
 use Rattle.login_terms.specs.Questions.{IsSmall}
 
 abbrev as_it_is : ℕ → ℕ

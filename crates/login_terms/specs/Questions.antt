@@ -3,9 +3,9 @@
 use Rattle.std.specs.Prelude.{◌≡◌, ◌⊎◌, ◌<◌, ℕ, List, [], Option, Some, None, IsTrue, codes, map}
 use Rattle.std.specs.Char.{to_ascii_lowercase}
 use Rattle.std.specs.List.{Any}
-use Rattle.sshkey_patterns.specs.LetterCases.{fold_of}
-use Rattle.sshkey_patterns.specs.Patterns.{Matches}
-use Rattle.sshkey_patterns.specs.declared.pattern.LetterCase.TheVariants.{Sensitive}
+use Rattle.sshkey_matching.specs.LetterCases.{fold_of}
+use Rattle.sshkey_matching.specs.Patterns.{Matches}
+use Rattle.sshkey_matching.specs.declared.pattern.LetterCase.TheVariants.{Sensitive}
 use Rattle.login_terms.specs.Terms.{Terms}
 use Rattle.login_terms.specs.Values.{HostAndPort}
 

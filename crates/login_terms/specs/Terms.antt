@@ -2,8 +2,8 @@
 -- versions of OpenSSH differ the strictest counts.
 use Rattle.std.specs.Prelude.{◌≡◌, ◌⊎◌, ℕ, ◌<◌, List, [], ◌∷◌, ◌++◌, Bool, true, false, Option, Some, None, length, map, min, option_map, string_bytes}
 use Rattle.std.specs.List.{Any}
-use Rattle.sshkey_times.specs.Times.{IsTimeText}
-use Rattle.sshkey_times.specs.declared.times.Span.{Span}
+use Rattle.sshkey_matching.specs.Times.{IsTimeText}
+use Rattle.sshkey_matching.specs.declared.times.Span.{Span}
 use Rattle.login_terms.specs.Values.{HostAndPort, IsPermitListen, IsPermitOpen, IsTunnel, IsVariable, MayBeListen, MayBePermit, MayBeTime, MayBeTunnel, permit_of}
 use Rattle.sshkey_entries.specs.Words.{Names}
 use Rattle.login_terms.specs.Words.{words}

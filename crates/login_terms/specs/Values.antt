@@ -5,8 +5,8 @@ use Rattle.std.specs.Char.{is_ascii_alphanumeric, to_ascii_lowercase}
 use Rattle.std.specs.List.{list_all, list_any}
 use Rattle.std.specs.Net.Grammar.{IsNumber}
 use Rattle.sshkey_model.specs.Lines.{IsWithout}
-use Rattle.sshkey_times.specs.Times.{HasTimeForm, IsTimeText}
-use Rattle.sshkey_times.specs.declared.times.Span.{Span}
+use Rattle.sshkey_matching.specs.Times.{HasTimeForm, IsTimeText}
+use Rattle.sshkey_matching.specs.declared.times.Span.{Span}
 use Rattle.login_terms.specs.declared.permits.Permit.{Permit}
 use denote.Ref.{Bor}
 

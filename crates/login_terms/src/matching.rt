@@ -3,12 +3,12 @@
 ghost use Rattle.std.specs.Prelude.{◌↔◌, IsTrue, map};
 ghost use Rattle.std.specs.Char.{to_ascii_lowercase};
 ghost use Rattle.std.specs.List.{All};
-ghost use Rattle.sshkey_patterns.specs.LetterCases.{fold_of};
-ghost use Rattle.sshkey_patterns.specs.Patterns.{Matches};
-ghost use Rattle.sshkey_patterns.specs.declared.pattern.LetterCase.TheVariants.{Sensitive};
+ghost use Rattle.sshkey_matching.specs.LetterCases.{fold_of};
+ghost use Rattle.sshkey_matching.specs.Patterns.{Matches};
+ghost use Rattle.sshkey_matching.specs.declared.pattern.LetterCase.TheVariants.{Sensitive};
 ghost use Rattle.login_terms.specs.Questions.{IsPortOf, IsSmall, Listens, Opens};
 
-use sshkey_patterns::{LetterCase, matches_pattern};
+use sshkey_matching::{LetterCase, matches_pattern};
 
 /// Whether the host and the port that `permitopen` names stand for those to which a client wants a
 /// port forwarded: `*` for any host, another for itself alone, byte by byte, and no port for any.

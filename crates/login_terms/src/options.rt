@@ -14,7 +14,7 @@ use crate::terms::Terms;
 use crate::values::{read_expiry, read_tunnel, variable_name};
 use crate::words::{Flag, Word, word_of};
 use sshkey_entries::{AddOptions, Reading};
-use sshkey_times::Span;
+use sshkey_matching::Span;
 use std::alloc::{AllocError, Global};
 
 /// How many variables sshd(8) reads at most, and how many hosts of each kind.

@@ -49,6 +49,14 @@ impl Terms {
             None => asked,
         }
     }
+
+    /// The line's command, to be shown or compared: it may be empty. What runs `runs` says. Does not
+    /// allocate.
+    pub fn shown_command(&self) -> Option<&str>
+        ensures { option_map (λ c. c.now) result ≡ (terms_of self.now).command }
+    {
+        self.command.as_deref()
+    }
 }
 
 /// Whether one of them stands for the host and the port.

@@ -1,11 +1,12 @@
 //! What the options of a line say.
 
-ghost use Rattle.std.specs.Prelude.{◌≡◌};
+ghost use Rattle.std.specs.Prelude.{◌≡◌, option_map, string_bytes};
+ghost use Rattle.login_terms.specs.Questions.{first_of};
 ghost use Rattle.login_terms.specs.Terms.{no_terms, terms_of};
 
 use crate::permissions::Permissions;
 use crate::permits::Permit;
-use sshkey_times::Span;
+use sshkey_matching::Span;
 use std::alloc::Global;
 
 /// What the options of a line of authorized_keys say (sshd(8), "AUTHORIZED_KEYS FILE FORMAT").
@@ -13,8 +14,8 @@ pub struct Terms {
     /// Whether the line's key signs certificates (`cert-authority`), and lets in by itself nobody.
     pub is_authority: bool,
     /// The one command that may run, whatever the client asks for. It may be empty: then nothing
-    /// runs, and no shell.
-    pub command: Option<String>,
+    /// runs, and no shell. So it is not read beside what is asked for: `runs` says what runs.
+    pub(crate) command: Option<String>,
     /// The names that a certificate may list in place of the user's, with commas between.
     pub principals: Option<String>,
     /// From where the key lets in.
@@ -77,5 +78,18 @@ impl Terms {
             touch_required: true,
             verify_required: false,
         }
+    }
+
+    /// The same where a certificate forces that command, or none, as well (PROTOCOL.certkeys,
+    /// `force-command`): the line's command stays, if it has one.
+    pub fn with_forced_command(mut self, command: Option<String>) -> Terms
+        ensures { terms_of result ≡ record (terms_of self) {
+          command = first_of (terms_of self).command (option_map string_bytes command);
+        } }
+    {
+        if self.command.is_none() {
+            self.command = command;
+        }
+        self
     }
 }

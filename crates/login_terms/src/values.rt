@@ -4,11 +4,11 @@ ghost use Rattle.std.specs.Prelude.{◌≡◌, ◌↔◌, IsTrue};
 ghost use Rattle.std.specs.List.{list_all, list_any};
 ghost use Rattle.sshkey_entries.specs.Readings.{IsTheOne, Tells};
 ghost use Rattle.login_terms.specs.Values.{IsTunnel, IsVariable, IsVariableName, MayBeTime, MayBeTunnel, is_space, is_variable_character};
-ghost use Rattle.sshkey_times.specs.Times.{IsTimeText};
+ghost use Rattle.sshkey_matching.specs.Times.{IsTimeText};
 
 use crate::numbers::read_number;
 use sshkey_entries::Reading;
-use sshkey_times::{Span, has_time_form, read_time};
+use sshkey_matching::{Span, has_time_form, read_time};
 
 /// The number that stands for any device (SSH_TUNID_ANY).
 pub const ANY_TUNNEL: u32 = 0x7fff_ffff;

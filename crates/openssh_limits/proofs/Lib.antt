@@ -1,1 +1,2 @@
 mod PlainTexts
+mod PaddedQuestions

@@ -1,6 +1,7 @@
 //! Worked examples of the definitions, on both sides of each edge.
 
 ghost use Rattle.openssh_limits.specs.KeyExamples.{BitLengths, Numbers, OtherKeys, Parts, RsaKeys};
+ghost use Rattle.openssh_limits.specs.PaddingExamples.{PaddedSignatures};
 ghost use Rattle.openssh_limits.specs.ReadExamples.{Applications, Principals};
 
 /// Numbers of keys.
@@ -36,4 +37,9 @@ pub fn principals()
 /// Applications.
 pub fn applications()
     ensures { Applications }
+{}
+
+/// RSA signatures that are shorter than the modulus, as long, and longer.
+pub fn padded_signatures()
+    ensures { PaddedSignatures }
 {}

@@ -70,11 +70,10 @@ authorities_are l c s f given result is print trusted =
 
 -- ---- what the policy is asked
 
-pub same_policy : (l : Login) (c : Certificate) (a b : List model.Fingerprint) (n m : List ℕ) (k : Key) → a ≡ b → n ≡ m → k ≡ c.signed.key → record { accepts = λ _. true; revokes = l.revokes; authorities = a; time = l.time; user = n; offered = k; blob = l.offer.blob; least_rsa_bits = l.trusted.least_rsa_bits; client = l.client } ≡ policy_login l c b m
-same_policy l c a b n m k authorities name key =
-    ap (λ (x : List model.Fingerprint). record { accepts = λ _. true; revokes = l.revokes; authorities = x; time = l.time; user = n; offered = k; blob = l.offer.blob; least_rsa_bits = l.trusted.least_rsa_bits; client = l.client }) authorities
-    ∙ ap (λ (x : List ℕ). record { accepts = λ _. true; revokes = l.revokes; authorities = b; time = l.time; user = x; offered = k; blob = l.offer.blob; least_rsa_bits = l.trusted.least_rsa_bits; client = l.client }) name
-    ∙ ap (λ (x : Key). record { accepts = λ _. true; revokes = l.revokes; authorities = b; time = l.time; user = m; offered = x; blob = l.offer.blob; least_rsa_bits = l.trusted.least_rsa_bits; client = l.client }) key
+pub same_policy : (l : Login) (c : Certificate) (a b : List model.Fingerprint) (n m : List ℕ) → a ≡ b → n ≡ m → record { accepts = λ _. true; revokes = l.revokes; authorities = a; time = l.time; user = n; blob = l.offer.blob; least_rsa_bits = l.trusted.least_rsa_bits; client = l.client } ≡ policy_login l c b m
+same_policy l c a b n m authorities name =
+    ap (λ (x : List model.Fingerprint). record { accepts = λ _. true; revokes = l.revokes; authorities = x; time = l.time; user = n; blob = l.offer.blob; least_rsa_bits = l.trusted.least_rsa_bits; client = l.client }) authorities
+    ∙ ap (λ (x : List ℕ). record { accepts = λ _. true; revokes = l.revokes; authorities = b; time = l.time; user = x; blob = l.offer.blob; least_rsa_bits = l.trusted.least_rsa_bits; client = l.client }) name
 
 -- ---- what is granted of a certificate
 

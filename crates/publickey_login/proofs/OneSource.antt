@@ -15,12 +15,12 @@ module _ (l : Login) where
 
   module _ (k : Key) where
     pub one_key_source : (s t : Source) (f g : Found) → IsKeySource l k s f → IsKeySource l k t g → g.terms ≡ f.terms
-    one_key_source (source.AuthorizedKeys n) (source.AuthorizedKeys m) f g a b = (one_in (user_of l k) KeyLine l.trusted.authorized_keys n m f g a b).0
-    one_key_source (source.AuthorizedKeys n) (source.Command m) f g a b = absurd (found_ends (user_of l k) KeyLine l.trusted.authorized_keys n f a b.0)
+    one_key_source (source.AuthorizedKeys n) (source.AuthorizedKeys m) f g a b = (one_in (user_of l) (KeyLine k) l.trusted.authorized_keys n m f g a b).0
+    one_key_source (source.AuthorizedKeys n) (source.Command m) f g a b = absurd (found_ends (user_of l) (KeyLine k) l.trusted.authorized_keys n f a b.0)
     one_key_source (source.AuthorizedKeys n) source.Authority f g a b = absurd b
     one_key_source (source.AuthorizedKeys n) (source.Principals m) f g a b = absurd b
-    one_key_source (source.Command n) (source.AuthorizedKeys m) f g a b = absurd (found_ends (user_of l k) KeyLine l.trusted.authorized_keys m g b a.0)
-    one_key_source (source.Command n) (source.Command m) f g a b = (one_in (user_of l k) KeyLine l.trusted.command_keys n m f g a.1 b.1).0
+    one_key_source (source.Command n) (source.AuthorizedKeys m) f g a b = absurd (found_ends (user_of l) (KeyLine k) l.trusted.authorized_keys m g b a.0)
+    one_key_source (source.Command n) (source.Command m) f g a b = (one_in (user_of l) (KeyLine k) l.trusted.command_keys n m f g a.1 b.1).0
     one_key_source (source.Command n) source.Authority f g a b = absurd b
     one_key_source (source.Command n) (source.Principals m) f g a b = absurd b
     one_key_source source.Authority t f g a b = absurd a
@@ -42,7 +42,7 @@ module _ (l : Login) where
     one_of_principals InCertificate (source.AuthorizedKeys n) t f g a b = absurd a
     one_of_principals InCertificate (source.Principals n) t f g a b = absurd a
     one_of_principals InCertificate (source.Command n) t f g a b = absurd a
-    one_of_principals (Files texts) (source.Principals n) (source.Principals m) f g a b = one_in (user_of l c.signed.key) (PrincipalLine c) texts n m f g a b
+    one_of_principals (Files texts) (source.Principals n) (source.Principals m) f g a b = one_in (user_of l) (PrincipalLine c) texts n m f g a b
     one_of_principals (Files texts) (source.Principals n) (source.AuthorizedKeys m) f g a b = absurd b
     one_of_principals (Files texts) (source.Principals n) source.Authority f g a b = absurd b
     one_of_principals (Files texts) (source.Principals n) (source.Command m) f g a b = absurd b
@@ -57,7 +57,7 @@ module _ (l : Login) where
     principals_end InCertificate (source.AuthorizedKeys n) f a none = a
     principals_end InCertificate (source.Principals n) f a none = a
     principals_end InCertificate (source.Command n) f a none = a
-    principals_end (Files texts) (source.Principals n) f a goes = found_ends (user_of l c.signed.key) (PrincipalLine c) texts n f a goes
+    principals_end (Files texts) (source.Principals n) f a goes = found_ends (user_of l) (PrincipalLine c) texts n f a goes
     principals_end (Files texts) (source.AuthorizedKeys n) f a goes = a
     principals_end (Files texts) source.Authority f a goes = a
     principals_end (Files texts) (source.Command n) f a goes = a
@@ -71,11 +71,11 @@ module _ (l : Login) where
     abbrev Same : Source → Source → Found → Found → Type 0
     Same s t f g = (authorities_of l c s ≡ authorities_of l c t) × ((g.terms ≡ f.terms) × (g.name ≡ f.name))
 
-    files_end : (n : ℕ) (f : Found) → IsFoundIn (user_of l c.signed.key) (AuthorityLine c) l.trusted.authorized_keys n f → GoesOn (user_of l c.signed.key) (AuthorityLine c) l.trusted.authorized_keys → ⊥
-    files_end n f a goes = found_ends (user_of l c.signed.key) (AuthorityLine c) l.trusted.authorized_keys n f a goes
+    files_end : (n : ℕ) (f : Found) → IsFoundIn (user_of l) (AuthorityLine c) l.trusted.authorized_keys n f → GoesOn (user_of l) (AuthorityLine c) l.trusted.authorized_keys → ⊥
+    files_end n f a goes = found_ends (user_of l) (AuthorityLine c) l.trusted.authorized_keys n f a goes
 
     pub one_source : (s t : Source) (f g : Found) → IsCertificateSource l c s f → IsCertificateSource l c t g → Same s t f g
-    one_source (source.AuthorizedKeys n) (source.AuthorizedKeys m) f g a b = (refl, one_in (user_of l c.signed.key) (AuthorityLine c) l.trusted.authorized_keys n m f g a b)
+    one_source (source.AuthorizedKeys n) (source.AuthorizedKeys m) f g a b = (refl, one_in (user_of l) (AuthorityLine c) l.trusted.authorized_keys n m f g a b)
     one_source (source.AuthorizedKeys n) source.Authority f g a b = absurd (files_end n f a b.0)
     one_source (source.AuthorizedKeys n) (source.Principals m) f g a b = absurd (files_end n f a b.0)
     one_source (source.AuthorizedKeys n) (source.Command m) f g a b = absurd (files_end n f a b.0)
@@ -90,4 +90,4 @@ module _ (l : Login) where
     one_source (source.Command n) (source.AuthorizedKeys m) f g a b = absurd (files_end m g b a.0)
     one_source (source.Command n) source.Authority f g a b = absurd (authority_ends source.Authority g b.1 a.1)
     one_source (source.Command n) (source.Principals m) f g a b = absurd (authority_ends (source.Principals m) g b.1 a.1)
-    one_source (source.Command n) (source.Command m) f g a b = (refl, one_in (user_of l c.signed.key) (AuthorityLine c) l.trusted.command_keys n m f g a.2 b.2)
+    one_source (source.Command n) (source.Command m) f g a b = (refl, one_in (user_of l) (AuthorityLine c) l.trusted.command_keys n m f g a.2 b.2)

@@ -1,7 +1,6 @@
 -- What the searches say of a login.
 use Rattle.std.proofs.Common.{◌≡◌, ◌≢◌, ◌∙◌, List, IsTrue, Option, Result, Ok, Err, ap, inl, inr, refl, subst, sym, true}
 use Rattle.std.specs.Option.{option_or}
-use Rattle.sshkey_keys.specs.Keys.{key_of}
 use Rattle.sshkey_model.specs.Certificates.{Certificate}
 use Rattle.sshkey_model.specs.Keys.{Key}
 use Rattle.sshkey_model.specs.Refusals.{has_trusted_authority}
@@ -27,54 +26,49 @@ use Rattle.publickey_login.specs.declared.search.TextList.TheVariants as list
 use Rattle.publickey_login.specs.declared.trusted.Trusted.{Trusted}
 
 module _ (l : Login) (u : code.UserLogin) (t : Trusted) (is : AsksOf l u t) where
-  abbrev k : Key
-  k = key_of u.offered.now
-
   -- what is searched of the call's texts is searched of the login's
-  pub searched : (texts : logins.Trusted → List Text) (s : Sought) (of : TextList) (result : Result SourceVerdict PublickeyRefusal) → SearchesIn (asked_of u) s of (texts (trusted_of t)) result → SearchesIn (user_of l k) s of (texts l.trusted) result
+  pub searched : (texts : logins.Trusted → List Text) (s : Sought) (of : TextList) (result : Result SourceVerdict PublickeyRefusal) → SearchesIn (asked_of u) s of (texts (trusted_of t)) result → SearchesIn (user_of l) s of (texts l.trusted) result
   searched texts s of result a = subst (λ (v : UserLogin). SearchesIn v s of (texts l.trusted) result) is.user (subst (λ (x : logins.Trusted). SearchesIn (asked_of u) s of (texts x) result) is.trusted a)
 
-  abbrev in_files : (s : Sought) (result : Result SourceVerdict PublickeyRefusal) → SearchesIn (asked_of u) s list.AuthorizedKeys (trusted_of t).authorized_keys result → SearchesIn (user_of l k) s list.AuthorizedKeys l.trusted.authorized_keys result
+  abbrev in_files : (s : Sought) (result : Result SourceVerdict PublickeyRefusal) → SearchesIn (asked_of u) s list.AuthorizedKeys (trusted_of t).authorized_keys result → SearchesIn (user_of l) s list.AuthorizedKeys l.trusted.authorized_keys result
   in_files s result a = searched (λ x. x.authorized_keys) s list.AuthorizedKeys result a
 
-  abbrev in_command : (s : Sought) (result : Result SourceVerdict PublickeyRefusal) → SearchesIn (asked_of u) s list.Command (trusted_of t).command_keys result → SearchesIn (user_of l k) s list.Command l.trusted.command_keys result
+  abbrev in_command : (s : Sought) (result : Result SourceVerdict PublickeyRefusal) → SearchesIn (asked_of u) s list.Command (trusted_of t).command_keys result → SearchesIn (user_of l) s list.Command l.trusted.command_keys result
   in_command s result a = searched (λ x. x.command_keys) s list.Command result a
 
   -- ---- a key
 
-  pub key_in_files : (o : Origin) → SearchesIn (asked_of u) KeyLine list.AuthorizedKeys (trusted_of t).authorized_keys (Ok (sources.Lets o)) → IsKeySource l k o.source (found_of o.line)
-  key_in_files o a =
-      let b = in_files KeyLine (Ok (sources.Lets o)) a in
-      subst (λ (s : Source). IsKeySource l k s (found_of o.line)) (sym b.1) b.2
+  module _ (k : Key) where
+    pub key_in_files : (o : Origin) → SearchesIn (asked_of u) (KeyLine k) list.AuthorizedKeys (trusted_of t).authorized_keys (Ok (sources.Lets o)) → IsKeySource l k o.source (found_of o.line)
+    key_in_files o a =
+        let b = in_files (KeyLine k) (Ok (sources.Lets o)) a in
+        subst (λ (s : Source). IsKeySource l k s (found_of o.line)) (sym b.1) b.2
 
-  pub key_by_command : (first : Option LineRefusal) → SearchesIn (asked_of u) KeyLine list.AuthorizedKeys (trusted_of t).authorized_keys (Ok (sources.Passes first)) → (o : Origin) → SearchesIn (asked_of u) KeyLine list.Command (trusted_of t).command_keys (Ok (sources.Lets o)) → IsKeySource l k o.source (found_of o.line)
-  key_by_command first goes o a =
-      let b = in_command KeyLine (Ok (sources.Lets o)) a in
-      subst (λ (s : Source). IsKeySource l k s (found_of o.line)) (sym b.1) ((in_files KeyLine (Ok (sources.Passes first)) goes).0, b.2)
+    pub key_by_command : (first : Option LineRefusal) → SearchesIn (asked_of u) (KeyLine k) list.AuthorizedKeys (trusted_of t).authorized_keys (Ok (sources.Passes first)) → (o : Origin) → SearchesIn (asked_of u) (KeyLine k) list.Command (trusted_of t).command_keys (Ok (sources.Lets o)) → IsKeySource l k o.source (found_of o.line)
+    key_by_command first goes o a =
+        let b = in_command (KeyLine k) (Ok (sources.Lets o)) a in
+        subst (λ (s : Source). IsKeySource l k s (found_of o.line)) (sym b.1) ((in_files (KeyLine k) (Ok (sources.Passes first)) goes).0, b.2)
 
-  pub no_key_in_files : (r : PublickeyRefusal) → SearchesIn (asked_of u) KeyLine list.AuthorizedKeys (trusted_of t).authorized_keys (Err r) → r ≢ refusal.Memory → IsWhyNoKeySource l k r
-  no_key_in_files r a other = inl (in_files KeyLine (Err r) a other)
+    pub no_key_in_files : (r : PublickeyRefusal) → SearchesIn (asked_of u) (KeyLine k) list.AuthorizedKeys (trusted_of t).authorized_keys (Err r) → r ≢ refusal.Memory → IsWhyNoKeySource l k r
+    no_key_in_files r a other = inl (in_files (KeyLine k) (Err r) a other)
 
-  pub no_key_by_command : (first : Option LineRefusal) → SearchesIn (asked_of u) KeyLine list.AuthorizedKeys (trusted_of t).authorized_keys (Ok (sources.Passes first)) → (r : PublickeyRefusal) → SearchesIn (asked_of u) KeyLine list.Command (trusted_of t).command_keys (Err r) → r ≢ refusal.Memory → IsWhyNoKeySource l k r
-  no_key_by_command first goes r a other = inr (inl ((in_files KeyLine (Ok (sources.Passes first)) goes).0, in_command KeyLine (Err r) a other))
+    pub no_key_by_command : (first : Option LineRefusal) → SearchesIn (asked_of u) (KeyLine k) list.AuthorizedKeys (trusted_of t).authorized_keys (Ok (sources.Passes first)) → (r : PublickeyRefusal) → SearchesIn (asked_of u) (KeyLine k) list.Command (trusted_of t).command_keys (Err r) → r ≢ refusal.Memory → IsWhyNoKeySource l k r
+    no_key_by_command first goes r a other = inr (inl ((in_files (KeyLine k) (Ok (sources.Passes first)) goes).0, in_command (KeyLine k) (Err r) a other))
 
-  pub no_key_at_all : (first then : Option LineRefusal) → SearchesIn (asked_of u) KeyLine list.AuthorizedKeys (trusted_of t).authorized_keys (Ok (sources.Passes first)) → SearchesIn (asked_of u) KeyLine list.Command (trusted_of t).command_keys (Ok (sources.Passes then)) → IsWhyNoKeySource l k (refusal_for (option_or first then))
-  no_key_at_all first then goes also =
-      let files = in_files KeyLine (Ok (sources.Passes first)) goes in
-      let command = in_command KeyLine (Ok (sources.Passes then)) also in
-      inr (inr (files.0, command.0, (first, then, files.1, command.1, refl)))
+    pub no_key_at_all : (first then : Option LineRefusal) → SearchesIn (asked_of u) (KeyLine k) list.AuthorizedKeys (trusted_of t).authorized_keys (Ok (sources.Passes first)) → SearchesIn (asked_of u) (KeyLine k) list.Command (trusted_of t).command_keys (Ok (sources.Passes then)) → IsWhyNoKeySource l k (refusal_for (option_or first then))
+    no_key_at_all first then goes also =
+        let files = in_files (KeyLine k) (Ok (sources.Passes first)) goes in
+        let command = in_command (KeyLine k) (Ok (sources.Passes then)) also in
+        inr (inr (files.0, command.0, (first, then, files.1, command.1, refl)))
 
   -- ---- a certificate
 
-  module _ (c : Certificate) (own : k ≡ c.signed.key) where
-    moved : (s : Sought) (of : TextList) (texts : List Text) (result : Result SourceVerdict PublickeyRefusal) → SearchesIn (user_of l k) s of texts result → SearchesIn (user_of l c.signed.key) s of texts result
-    moved s of texts result a = subst (λ (j : Key). SearchesIn (user_of l j) s of texts result) own a
+  module _ (c : Certificate) where
+    abbrev files : (result : Result SourceVerdict PublickeyRefusal) → SearchesIn (asked_of u) (AuthorityLine c) list.AuthorizedKeys (trusted_of t).authorized_keys result → SearchesIn (user_of l) (AuthorityLine c) list.AuthorizedKeys l.trusted.authorized_keys result
+    files result a = in_files (AuthorityLine c) result a
 
-    files : (result : Result SourceVerdict PublickeyRefusal) → SearchesIn (asked_of u) (AuthorityLine c) list.AuthorizedKeys (trusted_of t).authorized_keys result → SearchesIn (user_of l c.signed.key) (AuthorityLine c) list.AuthorizedKeys l.trusted.authorized_keys result
-    files result a = moved (AuthorityLine c) list.AuthorizedKeys l.trusted.authorized_keys result (in_files (AuthorityLine c) result a)
-
-    command : (result : Result SourceVerdict PublickeyRefusal) → SearchesIn (asked_of u) (AuthorityLine c) list.Command (trusted_of t).command_keys result → SearchesIn (user_of l c.signed.key) (AuthorityLine c) list.Command l.trusted.command_keys result
-    command result a = moved (AuthorityLine c) list.Command l.trusted.command_keys result (in_command (AuthorityLine c) result a)
+    abbrev command : (result : Result SourceVerdict PublickeyRefusal) → SearchesIn (asked_of u) (AuthorityLine c) list.Command (trusted_of t).command_keys result → SearchesIn (user_of l) (AuthorityLine c) list.Command l.trusted.command_keys result
+    command result a = in_command (AuthorityLine c) result a
 
     pub certificate_in_files : (o : Origin) → SearchesIn (asked_of u) (AuthorityLine c) list.AuthorizedKeys (trusted_of t).authorized_keys (Ok (sources.Lets o)) → IsCertificateSource l c o.source (found_of o.line)
     certificate_in_files o a =
@@ -121,12 +115,12 @@ module _ (l : Login) (u : code.UserLogin) (t : Trusted) (is : AsksOf l u t) wher
     -- ---- by texts of principals
 
     pub by_principals_of : (texts : List Text) → (trusted_of t).principals ≡ Files texts → has_trusted_authority l.trusted.authorities c ≡ true → (result : Result SourceVerdict PublickeyRefusal) → SearchesIn (asked_of u) (PrincipalLine c) list.Principals texts result → OriginatesBy l c result
-    by_principals_of texts told trusted result a = go result (moved (PrincipalLine c) list.Principals texts result (subst (λ (v : UserLogin). SearchesIn v (PrincipalLine c) list.Principals texts result) is.user a))
+    by_principals_of texts told trusted result a = go result (subst (λ (v : UserLogin). SearchesIn v (PrincipalLine c) list.Principals texts result) is.user a)
       where
         same : Files texts ≡ l.trusted.principals
         same = sym told ∙ ap (λ (x : logins.Trusted). x.principals) is.trusted
 
-        go : (result : Result SourceVerdict PublickeyRefusal) → SearchesIn (user_of l c.signed.key) (PrincipalLine c) list.Principals texts result → OriginatesBy l c result
+        go : (result : Result SourceVerdict PublickeyRefusal) → SearchesIn (user_of l) (PrincipalLine c) list.Principals texts result → OriginatesBy l c result
         go (Ok (sources.Lets o)) b = (trusted, subst (λ (p : Principals). IsOfPrincipals l c p o.source (found_of o.line)) same (subst (λ (s : Source). IsOfPrincipals l c (Files texts) s (found_of o.line)) (sym b.1) b.2))
         go (Ok (sources.Passes first)) b = (inr (trusted, subst (λ (p : Principals). PrincipalsGoOn l c p) same b.0), inr (trusted, subst (λ (p : Principals). PrincipalsRefuseFirst l c p first) same b.1))
         go (Err r) b = λ other. (trusted, (texts, sym same, b other))

@@ -1,21 +1,19 @@
 -- Who logs in, and who does not.
-use Rattle.std.proofs.Common.{◌≡◌, ◌≢◌, ◌↔◌, Bool, IfErr, IsTrue, Option, Result, Ok, Err, inl, inr, subst, sym}
+use Rattle.std.proofs.Common.{◌≡◌, ◌≢◌, Bool, IfErr, Option, Result, Ok, Err, inl, inr, subst, sym}
 use Rattle.login_terms.specs.Terms.{terms_of}
 use Rattle.sshkey_model.specs.Keys.{Key}
 use Rattle.sshkey_model.specs.Verification.{Question}
 use Rattle.sshkey_userauth.specs.declared.judgement.Requirements.{Requirements}
 use Rattle.sshkey_userauth.specs.declared.judgement.name.KeyForm.{KeyForm}
-use Rattle.publickey_login.proofs.Answered.{answered, yes_said}
 use Rattle.publickey_login.proofs.Grants.{one_left, same_grants, same_required}
 use Rattle.publickey_login.proofs.Unsigned.{not_left}
 use Rattle.publickey_login.proofs.Whys.{nothing}
-use Rattle.publickey_login.specs.Grants.{IsAnswered, IsLogin, IsPending, IsPendingOffer, MayOffer, required_of}
+use Rattle.publickey_login.specs.Grants.{IsAnswered, IsLogin, IsPending, required_of}
 use Rattle.publickey_login.specs.Logins.{Login}
-use Rattle.publickey_login.specs.Results.{DecidesBy, DecidesOffer, GrantsExactly, OffersExactly, authority_in, client_in, grant_in, offered_authority_in}
-use Rattle.publickey_login.specs.Signatures.{IsLeft, IsNamed, Signed}
-use Rattle.publickey_login.specs.Stops.{IsWhyNoLogin, IsWhyNoOffer, IsWhyNotPending, IsWhyOfferNotPending}
+use Rattle.publickey_login.specs.Results.{DecidesBy, GrantsExactly, authority_in, client_in, grant_in}
+use Rattle.publickey_login.specs.Signatures.{IsLeft, Signed}
+use Rattle.publickey_login.specs.Stops.{IsWhyNoLogin, IsWhyNotPending}
 use Rattle.publickey_login.specs.declared.grant.PublickeyGrant.{PublickeyGrant}
-use Rattle.publickey_login.specs.declared.offered.PendingOffer.{PendingOffer}
 use Rattle.publickey_login.specs.declared.pending_login.Pending.{Pending}
 use Rattle.publickey_login.specs.declared.refusal.PublickeyRefusal.{PublickeyRefusal}
 use Rattle.publickey_login.specs.declared.refusal.PublickeyRefusal.TheVariants as refusal
@@ -61,26 +59,3 @@ module _ (l : Login) where
       pub refused : (result : Result PublickeyGrant PublickeyRefusal) → DecidesBy accepts p result → IfErr result (λ r. r ≢ refusal.Memory → IsWhyNoLogin accepts l s r)
       refused (Ok g) says = tt
       refused (Err r) says = λ other. inr (grant_in p, authority_in p, client_in p, is, says other)
-
-  -- ---- the query
-
-  pub offer_not_pending : (r : PublickeyRefusal) → IsWhyOfferNotPending l r → (authority : Option (Option Question)) → IsPendingOffer l authority → ⊥
-  offer_not_pending r (inl none) authority is = nothing l r none is.grant authority is.key is.form is.grants
-  offer_not_pending r (inr (h, a, k, form, grants, why)) authority is =
-      let same = same_grants l a authority k is.key form is.form h is.grant grants is.grants in
-      let of_key = subst (λ (x : Key). IsNamed l.offer.algorithm x is.form) same.key is.named in
-      why.0 (subst (λ (x : KeyForm). IsNamed l.offer.algorithm k x) same.form of_key)
-
-  one_offer : (a b : Option (Option Question)) → IsPendingOffer l a → IsPendingOffer l b → b ≡ a
-  one_offer a b x y = (same_grants l a b x.key y.key x.form y.form x.grant y.grant x.grants y.grants).authority
-
-  module _ (accepts : Question → Bool) (p : PendingOffer) (is : IsPendingOffer l (offered_authority_in p)) (yes : Bool) (both : IsTrue yes ↔ IsAnswered accepts (offered_authority_in p)) where
-    pub offered : (result : Result (Unit {0}) PublickeyRefusal) → DecidesOffer p yes result → OffersExactly (MayOffer accepts l) result
-    offered (Ok u) says = record { authority = offered_authority_in p; pending = is; certified = answered accepts (offered_authority_in p) yes both says }
-    offered (Err r) says = λ other may.
-        let same = one_offer (offered_authority_in p) may.authority is may.pending in
-        says.0 (yes_said (offered_authority_in p) yes (both.1 (subst (λ (o : Option (Option Question)). IsAnswered accepts o) same may.certified)))
-
-    pub not_offered : (result : Result (Unit {0}) PublickeyRefusal) → DecidesOffer p yes result → IfErr result (λ r. r ≢ refusal.Memory → IsWhyNoOffer accepts l r)
-    not_offered (Ok u) says = tt
-    not_offered (Err r) says = λ other. inr (offered_authority_in p, is, ((λ answer. says.0 (yes_said (offered_authority_in p) yes (both.1 answer))), says.1))

@@ -4,9 +4,10 @@ use Rattle.std.specs.List.{Any}
 use Rattle.std.specs.Option.{option_or}
 use Rattle.std.specs.Str.Lines.{lines}
 use Rattle.sshkey_model.specs.Certificates.{Certificate}
+use Rattle.sshkey_model.specs.Keys.{Key}
 use Rattle.sshkey_model.specs.Refusals.{has_trusted_authority}
 use Rattle.user_keys.proofs.FirstLines.{some_first}
-use Rattle.user_keys.specs.UserLogins.{Ends, IsListedBy, UserLogin}
+use Rattle.user_keys.specs.UserLogins.{Ends, IsListedBy, OfKey, UserLogin}
 use Rattle.user_keys.specs.declared.refusal.Reason.{Reason}
 use Rattle.user_keys.specs.declared.refusal.Reason.TheVariants.{Expired}
 use Rattle.publickey_login.specs.Logins.{Login, Read}
@@ -22,25 +23,25 @@ use Rattle.user_keys.specs.declared.refusal.UserRefusal.TheVariants as why
 no_line : (P : List ℕ → Type 0) → Any P (lines []) → ⊥
 no_line P (k, x, less, is, p) = absurd (omega (arith, less))
 
-module _ (u : UserLogin) where
-  pub nothing : HasNone u KeyLine []
-  nothing = (no_line (Ends (in_text u [])), no_line (IsListedBy (in_text u [])))
+module _ (u : UserLogin) (k : Key) where
+  pub nothing : HasNone u (KeyLine k) []
+  nothing = (no_line (Ends (in_text u []) (OfKey k)), no_line (IsListedBy (OfKey k)))
 
   -- a text that refuses has a line
-  pub has_some : (text : List ℕ) (n : ℕ) (reason : Reason) → RefusesWith u KeyLine n reason text → HasNone u KeyLine text → ⊥
-  has_some text n reason refuses none = none.1 (some_first (IsListedBy (in_text u text)) (lines text) refuses.1.0 n refuses.1.1)
+  pub has_some : (text : List ℕ) (n : ℕ) (reason : Reason) → RefusesWith u (KeyLine k) n reason text → HasNone u (KeyLine k) text → ⊥
+  has_some text n reason refuses none = none.1 (some_first (IsListedBy (OfKey k)) (lines text) refuses.1.0 n refuses.1.1)
 
-  module _ (over elsewhere : List ℕ) (both : Refuse u KeyLine KeyLine over elsewhere) where
-    pub not_silent : RefusesFirst u KeyLine list.AuthorizedKeys (Read over ∷ []) None → ⊥
+  module _ (over elsewhere : List ℕ) (both : Refuse u (KeyLine k) (KeyLine k) over elsewhere) where
+    pub not_silent : RefusesFirst u (KeyLine k) list.AuthorizedKeys (Read over ∷ []) None → ⊥
     unfolding ArePassed
     not_silent a = has_some over 3 Expired both.third a.0
 
-    pub only_first : (x : LineRefusal) → RefusesFirst u KeyLine list.AuthorizedKeys (Read over ∷ Read elsewhere ∷ []) (Some x) → (x.source ≡ source.AuthorizedKeys 0) × IsWhy u KeyLine over (why.NotAllowed x.line x.reason)
+    pub only_first : (x : LineRefusal) → RefusesFirst u (KeyLine k) list.AuthorizedKeys (Read over ∷ Read elsewhere ∷ []) (Some x) → (x.source ≡ source.AuthorizedKeys 0) × IsWhy u (KeyLine k) over (why.NotAllowed x.line x.reason)
     unfolding IsOfFirst
     only_first x (zero, is, first) = (is, first)
     only_first x (suc n, is, first) = absurd (has_some over 3 Expired both.third first.0)
 
-    pub never_unlisted : (files command : Option LineRefusal) → RefusesFirst u KeyLine list.Command (Read over ∷ []) command → refusal.NotListed ≡ refusal_for (option_or files command) → ⊥
+    pub never_unlisted : (files command : Option LineRefusal) → RefusesFirst u (KeyLine k) list.Command (Read over ∷ []) command → refusal.NotListed ≡ refusal_for (option_or files command) → ⊥
     unfolding ArePassed
     never_unlisted None None a is = has_some over 3 Expired both.third a.0
     never_unlisted None (Some x) a is = absurd (cc is)

@@ -6,15 +6,16 @@ use Rattle.std.proofs.Math.ListN.{drop_of_length-le}
 use Rattle.std.specs.Str.Lines.{lines}
 use Rattle.login_terms.specs.Terms.{Terms}
 use Rattle.sshkey_model.specs.Certificates.{Certificate}
+use Rattle.sshkey_model.specs.Keys.{Key}
 use Rattle.user_keys.proofs.FirstLines.{none_lets, nothing_lets, one_terms, some_first}
 use Rattle.user_keys.proofs.Principals.{not_allowed, one_name, refused_is_told, refused_lets_in, undecided}
 use Rattle.user_keys.specs.Certificates.{name_for}
 use Rattle.user_keys.specs.Answers.{IsWhyNoLine}
-use Rattle.user_keys.specs.CertificateLogins.{FindsLine, IsLineFor, by}
+use Rattle.user_keys.specs.CertificateLogins.{FindsLine, IsLineFor}
 use Rattle.user_keys.specs.FirstLines.{EndsBy}
 use Rattle.user_keys.specs.PrincipalLogins.{IsPrincipalLine, IsWhyUndecided}
 use Rattle.user_keys.specs.Principals.{Decides, MayDecide, lines_at_feeds}
-use Rattle.user_keys.specs.UserLogins.{Ends, Lets, MayLet, UserLogin}
+use Rattle.user_keys.specs.UserLogins.{Ends, Lets, MayLet, OfCertificate, OfKey, UserLogin}
 use Rattle.user_keys.specs.declared.grant.NamedLine.{NamedLine}
 use Rattle.user_keys.specs.declared.refusal.Reason.{Reason}
 use Rattle.user_keys.specs.declared.refusal.UserRefusal.{UserRefusal}
@@ -33,9 +34,9 @@ module _ (u : UserLogin) where
 
   -- its line says and is for one thing
   pub one_found : (s : Sought) (text : List ℕ) (f g : Found) → IsFoundBy u s text f → IsFoundBy u s text g → (g.terms ≡ f.terms) × (g.name ≡ f.name)
-  one_found KeyLine text f g a b = (one_terms (Lets (in_text u text)) (MayLet (in_text u text)) (lines text) f.line g.line f.terms g.terms a.0 b.0, b.1 ∙ sym a.1)
+  one_found (KeyLine k) text f g a b = (one_terms (Lets (in_text u text) (OfKey k)) (MayLet (in_text u text) (OfKey k)) (lines text) f.line g.line f.terms g.terms a.0 b.0, b.1 ∙ sym a.1)
   one_found (AuthorityLine c) text f g a b =
-      let same = one_terms (Lets (by (in_text u text) c)) (MayLet (by (in_text u text) c)) (lines text) f.line g.line f.terms g.terms a.0 b.0 in
+      let same = one_terms (Lets (in_text u text) (OfCertificate c)) (MayLet (in_text u text) (OfCertificate c)) (lines text) f.line g.line f.terms g.terms a.0 b.0 in
       let named : Some g.name ≡ Some f.name = sym b.1 ∙ ap (λ (t : Terms). name_for c u.user t) same ∙ a.1 in
       (same, cc)
   one_found (PrincipalLine c) text f g a b = (
@@ -45,55 +46,55 @@ module _ (u : UserLogin) where
 
   -- nor is it passed over
   pub found_counts : (s : Sought) (text : List ℕ) (f : Found) → IsFoundBy u s text f → Passes u s text → ⊥
-  found_counts KeyLine text f a none = nothing_lets (Lets (in_text u text)) (MayLet (in_text u text)) (lines text) none f.line f.terms a.0
-  found_counts (AuthorityLine c) text f a none = nothing_lets (Lets (by (in_text u text) c)) (MayLet (by (in_text u text) c)) (lines text) none f.line f.terms a.0
+  found_counts (KeyLine k) text f a none = nothing_lets (Lets (in_text u text) (OfKey k)) (MayLet (in_text u text) (OfKey k)) (lines text) none f.line f.terms a.0
+  found_counts (AuthorityLine c) text f a none = nothing_lets (Lets (in_text u text) (OfCertificate c)) (MayLet (in_text u text) (OfCertificate c)) (lines text) none f.line f.terms a.0
   found_counts (PrincipalLine c) text f a none = nothing_lets (Decides c) (MayDecide c) (lines_at_feeds text) none f.line f.terms a.0.0
 
   pub refused_counts : (s : Sought) (text : List ℕ) → RefusesBy u s text → Passes u s text → ⊥
-  refused_counts KeyLine text a none = a
+  refused_counts (KeyLine k) text a none = a
   refused_counts (AuthorityLine c) text a none = a
   refused_counts (PrincipalLine c) text (n, t, name, decides, why) none = nothing_lets (Decides c) (MayDecide c) (lines_at_feeds text) none n t decides.0
 
   pub found_lets : (s : Sought) (text : List ℕ) (f : Found) → IsFoundBy u s text f → RefusesBy u s text → ⊥
-  found_lets KeyLine text f a b = b
+  found_lets (KeyLine k) text f a b = b
   found_lets (AuthorityLine c) text f a b = b
   found_lets (PrincipalLine c) text f a (n, t, name, decides, says) = refused_lets_in (in_principals u text) c n t name decides says f.line f.terms f.name a
 
   -- ---- a text that cannot be told
 
   unclear_lets : (s : Sought) (text : List ℕ) (n : ℕ) (f : Found) → IsFoundBy u s text f → IsUnclearBy u s text n → ⊥
-  unclear_lets KeyLine text n f a (line, first, may) = none_lets (Lets (in_text u text)) (MayLet (in_text u text)) (lines text) line n first may f.line f.terms a.0
-  unclear_lets (AuthorityLine c) text n f a (line, first, may) = none_lets (Lets (by (in_text u text) c)) (MayLet (by (in_text u text) c)) (lines text) line n first may f.line f.terms a.0
+  unclear_lets (KeyLine k) text n f a (line, first, may) = none_lets (Lets (in_text u text) (OfKey k)) (MayLet (in_text u text) (OfKey k)) (lines text) line n first may f.line f.terms a.0
+  unclear_lets (AuthorityLine c) text n f a (line, first, may) = none_lets (Lets (in_text u text) (OfCertificate c)) (MayLet (in_text u text) (OfCertificate c)) (lines text) line n first may f.line f.terms a.0
   unclear_lets (PrincipalLine c) text n f a (inl none) = undecided (in_principals u text) c (why.Unclear n) none f.line f.terms f.name a
   unclear_lets (PrincipalLine c) text n f a (inr (m, t, name, decides, says)) = not_allowed (in_principals u text) c m t name decides (why.Unclear n) says f.line f.terms f.name a
 
   unclear_counts : (s : Sought) (text : List ℕ) (n : ℕ) → IsUnclearBy u s text n → Passes u s text → ⊥
-  unclear_counts KeyLine text n (line, first, may) none = none (some_first (Ends (in_text u text)) (lines text) line n first)
-  unclear_counts (AuthorityLine c) text n (line, first, may) none = none (some_first (Ends (by (in_text u text) c)) (lines text) line n first)
+  unclear_counts (KeyLine k) text n (line, first, may) none = none (some_first (Ends (in_text u text) (OfKey k)) (lines text) line n first)
+  unclear_counts (AuthorityLine c) text n (line, first, may) none = none (some_first (Ends (in_text u text) (OfCertificate c)) (lines text) line n first)
   unclear_counts (PrincipalLine c) text n (inl (inl x)) none = absurd (cc x.1)
   unclear_counts (PrincipalLine c) text n (inl (inr (line, m, first, may, is))) none = none (some_first (EndsBy (Decides c) (MayDecide c)) (lines_at_feeds text) line m first)
   unclear_counts (PrincipalLine c) text n (inr (m, t, name, decides, says)) none = nothing_lets (Decides c) (MayDecide c) (lines_at_feeds text) none m t decides.0
 
   unclear_told : (s : Sought) (text : List ℕ) (n : ℕ) → RefusesBy u s text → IsUnclearBy u s text n → ⊥
-  unclear_told KeyLine text n a b = a
+  unclear_told (KeyLine k) text n a b = a
   unclear_told (AuthorityLine c) text n a b = a
   unclear_told (PrincipalLine c) text n (m, t, name, decides, says) why = refused_is_told (in_principals u text) c m n t name decides says why
 
   -- ---- what is found of a text
 
-  no_key_line : (text : List ℕ) (r : UserRefusal) → IsWhyNoLine (in_text u text) r → (f : Found) → IsFoundBy u KeyLine text f → ⊥
-  no_key_line text why.NotListed none f a = found_counts KeyLine text f a none.0
-  no_key_line text (why.NotAllowed n reason) none f a = found_counts KeyLine text f a none.0
-  no_key_line text (why.Unclear n) none f a = unclear_lets KeyLine text n f a none
-  no_key_line text why.UnacceptedKey none f a = none
-  no_key_line text why.Revoked none f a = none
-  no_key_line text (why.Certificate p) none f a = none
-  no_key_line text why.Memory none f a = none
+  no_key_line : (k : Key) (text : List ℕ) (r : UserRefusal) → IsWhyNoLine (in_text u text) (OfKey k) r → (f : Found) → IsFoundBy u (KeyLine k) text f → ⊥
+  no_key_line k text why.NotListed none f a = found_counts (KeyLine k) text f a none.0
+  no_key_line k text (why.NotAllowed n reason) none f a = found_counts (KeyLine k) text f a none.0
+  no_key_line k text (why.Unclear n) none f a = unclear_lets (KeyLine k) text n f a none
+  no_key_line k text why.UnacceptedKey none f a = none
+  no_key_line k text why.Revoked none f a = none
+  no_key_line k text (why.Certificate p) none f a = none
+  no_key_line k text why.Memory none f a = none
 
-  pub key_line : (text : List ℕ) (r : UserRefusal) → (r ≢ why.Memory → IsWhyNoLine (in_text u text) r) → FindsText u KeyLine text (Err r)
-  key_line text r refused = λ other. (refused other, no_key_line text r (refused other))
+  pub key_line : (k : Key) (text : List ℕ) (r : UserRefusal) → (r ≢ why.Memory → IsWhyNoLine (in_text u text) (OfKey k) r) → FindsText u (KeyLine k) text (Err r)
+  key_line k text r refused = λ other. (refused other, no_key_line k text r (refused other))
 
-  pub authority_line : (c : Certificate) (text : List ℕ) (result : Result NamedLine UserRefusal) → FindsLine (IsLineFor (in_text u text) c) result → IfErr result (λ r. r ≢ why.Memory → IsWhyNoLine (by (in_text u text) c) r) → FindsText u (AuthorityLine c) text result
+  pub authority_line : (c : Certificate) (text : List ℕ) (result : Result NamedLine UserRefusal) → FindsLine (IsLineFor (in_text u text) c) result → IfErr result (λ r. r ≢ why.Memory → IsWhyNoLine (in_text u text) (OfCertificate c) r) → FindsText u (AuthorityLine c) text result
   authority_line c text (Ok line) exactly refused = exactly
   authority_line c text (Err r) exactly refused = λ other. (refused other, λ f a. exactly other f.line f.terms f.name a)
 
@@ -104,7 +105,7 @@ module _ (u : UserLogin) where
   -- ---- a text that refuses, or has no line
 
   pub none_passes : (s : Sought) (text : List ℕ) → HasNone u s text → Passes u s text
-  none_passes KeyLine text none = none.0
+  none_passes (KeyLine k) text none = none.0
   none_passes (AuthorityLine c) text none = none.0
   none_passes (PrincipalLine c) text (inl (inl x)) = x.0
   none_passes (PrincipalLine c) text (inl (inr (line, m, first, may, is))) = absurd (cc is)
@@ -113,12 +114,12 @@ module _ (u : UserLogin) where
 
   -- lines that refuse are passed over, but for a principal
   pub refused_passes : (s : Sought) (text : List ℕ) (n : ℕ) (reason : Reason) → decides_alone s ≡ false → RefusesWith u s n reason text → Passes u s text
-  refused_passes KeyLine text n reason goes none = none.0
+  refused_passes (KeyLine k) text n reason goes none = none.0
   refused_passes (AuthorityLine c) text n reason goes none = none.0
   refused_passes (PrincipalLine c) text n reason goes none = absurd (cc goes)
 
   pub refused_ends : (s : Sought) (text : List ℕ) (n : ℕ) (reason : Reason) → decides_alone s ≡ true → RefusesWith u s n reason text → RefusesBy u s text
-  refused_ends KeyLine text n reason ends none = absurd (cc ends)
+  refused_ends (KeyLine k) text n reason ends none = absurd (cc ends)
   refused_ends (AuthorityLine c) text n reason ends none = absurd (cc ends)
   refused_ends (PrincipalLine c) text n reason ends (inl (inl x)) = absurd (cc x.1)
   refused_ends (PrincipalLine c) text n reason ends (inl (inr (line, m, first, may, is))) = absurd (cc is)

@@ -32,16 +32,16 @@ module _ (l : Login) (r : PublickeyRefusal) where
 
   module _ (k : Key) where
     no_key_source : IsWhyNoKeySource l k r → (s : Source) (f : Found) → IsKeySource l k s f → ⊥
-    no_key_source (inl (m, line, stopped, is)) (source.AuthorizedKeys n) f a = found_stops (user_of l k) KeyLine l.trusted.authorized_keys n m f line a stopped
-    no_key_source (inl (m, line, stopped, is)) (source.Command n) f a = goes_stops (user_of l k) KeyLine l.trusted.authorized_keys m line a.0 stopped
+    no_key_source (inl (m, line, stopped, is)) (source.AuthorizedKeys n) f a = found_stops (user_of l) (KeyLine k) l.trusted.authorized_keys n m f line a stopped
+    no_key_source (inl (m, line, stopped, is)) (source.Command n) f a = goes_stops (user_of l) (KeyLine k) l.trusted.authorized_keys m line a.0 stopped
     no_key_source (inl w) source.Authority f a = a
     no_key_source (inl w) (source.Principals n) f a = a
-    no_key_source (inr (inl (goes, w))) (source.AuthorizedKeys n) f a = found_ends (user_of l k) KeyLine l.trusted.authorized_keys n f a goes
-    no_key_source (inr (inl (goes, (m, line, stopped, is)))) (source.Command n) f a = found_stops (user_of l k) KeyLine l.trusted.command_keys n m f line a.1 stopped
+    no_key_source (inr (inl (goes, w))) (source.AuthorizedKeys n) f a = found_ends (user_of l) (KeyLine k) l.trusted.authorized_keys n f a goes
+    no_key_source (inr (inl (goes, (m, line, stopped, is)))) (source.Command n) f a = found_stops (user_of l) (KeyLine k) l.trusted.command_keys n m f line a.1 stopped
     no_key_source (inr (inl w)) source.Authority f a = a
     no_key_source (inr (inl w)) (source.Principals n) f a = a
-    no_key_source (inr (inr (goes, also, is))) (source.AuthorizedKeys n) f a = found_ends (user_of l k) KeyLine l.trusted.authorized_keys n f a goes
-    no_key_source (inr (inr (goes, also, is))) (source.Command n) f a = found_ends (user_of l k) KeyLine l.trusted.command_keys n f a.1 also
+    no_key_source (inr (inr (goes, also, is))) (source.AuthorizedKeys n) f a = found_ends (user_of l) (KeyLine k) l.trusted.authorized_keys n f a goes
+    no_key_source (inr (inr (goes, also, is))) (source.Command n) f a = found_ends (user_of l) (KeyLine k) l.trusted.command_keys n f a.1 also
     no_key_source (inr (inr w)) source.Authority f a = a
     no_key_source (inr (inr w)) (source.Principals n) f a = a
 
@@ -54,13 +54,13 @@ module _ (l : Login) (r : PublickeyRefusal) where
 
   module _ (c : Certificate) where
     abbrev Stopped : List Text → ℕ → Option ℕ → Type 0
-    Stopped texts m line = IsStopped (user_of l c.signed.key) (PrincipalLine c) texts m line
+    Stopped texts m line = IsStopped (user_of l) (PrincipalLine c) texts m line
 
     stopped_principals : (p : Principals) (texts : List Text) → p ≡ Files texts → (s : Source) (f : Found) → IsOfPrincipals l c p s f → (m : ℕ) (line : Option ℕ) → Stopped texts m line → ⊥
     stopped_principals InCertificate texts is s f a m line stopped = absurd (cc is)
     stopped_principals (Files own) texts is (source.Principals n) f a m line stopped =
         let same : own ≡ texts = cc is in
-        found_stops (user_of l c.signed.key) (PrincipalLine c) own n m f line a (subst (λ (x : List Text). Stopped x m line) (sym same) stopped)
+        found_stops (user_of l) (PrincipalLine c) own n m f line a (subst (λ (x : List Text). Stopped x m line) (sym same) stopped)
     stopped_principals (Files own) texts is (source.AuthorizedKeys n) f a m line stopped = a
     stopped_principals (Files own) texts is source.Authority f a m line stopped = a
     stopped_principals (Files own) texts is (source.Command n) f a m line stopped = a
@@ -69,7 +69,7 @@ module _ (l : Login) (r : PublickeyRefusal) where
     stopped_goes InCertificate texts is goes m line stopped = absurd (cc is)
     stopped_goes (Files own) texts is goes m line stopped =
         let same : own ≡ texts = cc is in
-        goes_stops (user_of l c.signed.key) (PrincipalLine c) own m line goes (subst (λ (x : List Text). Stopped x m line) (sym same) stopped)
+        goes_stops (user_of l) (PrincipalLine c) own m line goes (subst (λ (x : List Text). Stopped x m line) (sym same) stopped)
 
     no_authority : IsWhyNoAuthority l c r → (s : Source) (f : Found) → IsOfAuthority l c s f → ⊥
     no_authority (trusted, (texts, is, (m, line, stopped, why))) s f a = stopped_principals l.trusted.principals texts is s f a.1 m line stopped
@@ -79,22 +79,22 @@ module _ (l : Login) (r : PublickeyRefusal) where
     no_way_on (trusted, (texts, is, (m, line, stopped, why))) (inr goes) = stopped_goes l.trusted.principals texts is goes.1 m line stopped
 
     no_source : IsWhyNoSource l c r → (s : Source) (f : Found) → IsCertificateSource l c s f → ⊥
-    no_source (inl (m, line, stopped, is)) (source.AuthorizedKeys n) f a = found_stops (user_of l c.signed.key) (AuthorityLine c) l.trusted.authorized_keys n m f line a stopped
-    no_source (inl (m, line, stopped, is)) source.Authority f a = goes_stops (user_of l c.signed.key) (AuthorityLine c) l.trusted.authorized_keys m line a.0 stopped
-    no_source (inl (m, line, stopped, is)) (source.Principals n) f a = goes_stops (user_of l c.signed.key) (AuthorityLine c) l.trusted.authorized_keys m line a.0 stopped
-    no_source (inl (m, line, stopped, is)) (source.Command n) f a = goes_stops (user_of l c.signed.key) (AuthorityLine c) l.trusted.authorized_keys m line a.0 stopped
-    no_source (inr (inl (goes, why))) (source.AuthorizedKeys n) f a = found_ends (user_of l c.signed.key) (AuthorityLine c) l.trusted.authorized_keys n f a goes
+    no_source (inl (m, line, stopped, is)) (source.AuthorizedKeys n) f a = found_stops (user_of l) (AuthorityLine c) l.trusted.authorized_keys n m f line a stopped
+    no_source (inl (m, line, stopped, is)) source.Authority f a = goes_stops (user_of l) (AuthorityLine c) l.trusted.authorized_keys m line a.0 stopped
+    no_source (inl (m, line, stopped, is)) (source.Principals n) f a = goes_stops (user_of l) (AuthorityLine c) l.trusted.authorized_keys m line a.0 stopped
+    no_source (inl (m, line, stopped, is)) (source.Command n) f a = goes_stops (user_of l) (AuthorityLine c) l.trusted.authorized_keys m line a.0 stopped
+    no_source (inr (inl (goes, why))) (source.AuthorizedKeys n) f a = found_ends (user_of l) (AuthorityLine c) l.trusted.authorized_keys n f a goes
     no_source (inr (inl (goes, why))) source.Authority f a = no_authority why source.Authority f a.1
     no_source (inr (inl (goes, why))) (source.Principals n) f a = no_authority why (source.Principals n) f a.1
     no_source (inr (inl (goes, why))) (source.Command n) f a = no_way_on why a.1
-    no_source (inr (inr (inl (goes, on, why)))) (source.AuthorizedKeys n) f a = found_ends (user_of l c.signed.key) (AuthorityLine c) l.trusted.authorized_keys n f a goes
+    no_source (inr (inr (inl (goes, on, why)))) (source.AuthorizedKeys n) f a = found_ends (user_of l) (AuthorityLine c) l.trusted.authorized_keys n f a goes
     no_source (inr (inr (inl (goes, on, why)))) source.Authority f a = authority_ends l c source.Authority f a.1 on
     no_source (inr (inr (inl (goes, on, why)))) (source.Principals n) f a = authority_ends l c (source.Principals n) f a.1 on
-    no_source (inr (inr (inl (goes, on, (m, line, stopped, is))))) (source.Command n) f a = found_stops (user_of l c.signed.key) (AuthorityLine c) l.trusted.command_keys n m f line a.2 stopped
-    no_source (inr (inr (inr (goes, on, also, is)))) (source.AuthorizedKeys n) f a = found_ends (user_of l c.signed.key) (AuthorityLine c) l.trusted.authorized_keys n f a goes
+    no_source (inr (inr (inl (goes, on, (m, line, stopped, is))))) (source.Command n) f a = found_stops (user_of l) (AuthorityLine c) l.trusted.command_keys n m f line a.2 stopped
+    no_source (inr (inr (inr (goes, on, also, is)))) (source.AuthorizedKeys n) f a = found_ends (user_of l) (AuthorityLine c) l.trusted.authorized_keys n f a goes
     no_source (inr (inr (inr (goes, on, also, is)))) source.Authority f a = authority_ends l c source.Authority f a.1 on
     no_source (inr (inr (inr (goes, on, also, is)))) (source.Principals n) f a = authority_ends l c (source.Principals n) f a.1 on
-    no_source (inr (inr (inr (goes, on, also, is)))) (source.Command n) f a = found_ends (user_of l c.signed.key) (AuthorityLine c) l.trusted.command_keys n f a.2 also
+    no_source (inr (inr (inr (goes, on, also, is)))) (source.Command n) f a = found_ends (user_of l) (AuthorityLine c) l.trusted.command_keys n f a.2 also
 
     -- ---- the policy
 

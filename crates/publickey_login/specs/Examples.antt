@@ -1,11 +1,11 @@
 -- Worked examples: who has signed, on both sides of each edge.
-use Rattle.std.specs.Prelude.{ℕ, List, ◌++◌, replicate, Option, Some, None, true, false, Bool, codes}
+use Rattle.std.specs.Prelude.{◌≡◌, ℕ, List, ◌++◌, replicate, Option, Some, None, true, false, Bool, codes}
 use Rattle.sshkey_model.specs.HexText.{hex}
 use Rattle.sshkey_model.specs.Keys.{Key, Ed25519, SecurityKey, SkEcdsa, SkEd25519}
 use Rattle.sshkey_model.specs.Verification.{Question}
 use Rattle.sshkey_userauth.specs.declared.judgement.Requirements.{Requirements}
 use Rattle.sshkey_userauth.specs.declared.judgement.name.KeyForm.TheVariants.{Plain, Certified}
-use Rattle.publickey_login.specs.Signatures.{AreFlags, BySshd, ByTransport, HasFlags, IsLeft, IsNamed, Offer, Request}
+use Rattle.publickey_login.specs.Signatures.{AreFlags, BySshd, ByTransport, HasFlags, IsLeft, IsNamed, Offer, Request, request_for}
 
 abbrev requiring : Bool → Bool → Requirements
 requiring touch verify = record { touch_required = touch; verify_required = verify }
@@ -51,3 +51,9 @@ Left = IsLeft (offer None) (ByTransport None) (requiring true false) key Plain N
     × ((q : Option Question) → ¬ IsLeft (offer None) BySshd (requiring false false) key Plain (Some q))
     × ¬ IsLeft (offer None) (Request (hex "aabb") None (hex "")) (requiring false false) key Plain None
     × ((q : Option Question) → ¬ IsLeft (offer None) (Request (hex "aabb") None (hex "")) (requiring false false) key Plain (Some q))
+
+-- What the client signs is what it offers, under the name that it tells, for that session and that host,
+-- and for the service that starts after the login (RFC 4252, section 7; RFC 4254, section 1).
+abbrev pub Signs : Type 0
+Signs = (host : Option (List ℕ)) → request_for (offer None) (codes "ssh-ed25519") (hex "aabb") host
+    ≡ record { session_id = hex "aabb"; user = codes "alice"; service = codes "ssh-connection"; algorithm = codes "ssh-ed25519"; public_key = hex "0000000b 7373682d65643235353139 00000020" ++ replicate 32 0x03; host_key = host }

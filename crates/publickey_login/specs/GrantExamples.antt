@@ -40,14 +40,14 @@ Certificates = ((l : Login) (c : Certificate) (g : PublickeyGrant) → ¬ Grants
 abbrev pub Logins : Type 0
 Logins = ((l : Login) (g : PublickeyGrant) (session_id bytes : List ℕ) (host_key : Option (List ℕ)) → ¬ IsLogin (λ q. false) l (Request session_id host_key bytes) g)
     × ((l : Login) (g : PublickeyGrant) (client : Option (Option Question)) → ¬ IsPending l BySshd g None (Some None))
-    × ((g : PublickeyGrant) (is : MayOffer (λ q. false) trusting_all) → is.authority ≡ None)
+    × ((is : MayOffer (λ q. false) trusting_all) → is.1.authority ≡ None)
     × ¬ MayOffer (λ q. true) (login (record (trusting [] InCertificate []) { authorities = [] }))
 
 -- Lines of keys and of authorities that refuse are passed over, and a key's line is for no name. A
 -- certificate that lists somebody is let in by its authority.
 abbrev pub Refusals : Type 0
-Refusals = ((u : UserLogin) (text : List ℕ) → ¬ RefusesBy u KeyLine text)
+Refusals = ((u : UserLogin) (k : Key) (text : List ℕ) → ¬ RefusesBy u (KeyLine k) text)
     × ((u : UserLogin) (c : Certificate) (text : List ℕ) → ¬ RefusesBy u (AuthorityLine c) text)
-    × ((u : UserLogin) (text : List ℕ) (f : Found) → IsFoundBy u KeyLine text f → f.name ≡ [])
+    × ((u : UserLogin) (k : Key) (text : List ℕ) (f : Found) → IsFoundBy u (KeyLine k) text f → f.name ≡ [])
     × PrincipalsGoOn trusting_all nobodys InCertificate
     × ¬ PrincipalsGoOn trusting_all certificate InCertificate

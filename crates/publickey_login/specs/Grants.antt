@@ -17,7 +17,7 @@ use Rattle.sshkey_userauth.specs.declared.judgement.name.KeyForm.TheVariants.{Ce
 use Rattle.user_keys.specs.CertificateLogins.{BindsTogether}
 use Rattle.publickey_login.specs.Logins.{Login}
 use Rattle.publickey_login.specs.Searches.{Found}
-use Rattle.publickey_login.specs.Signatures.{IsLeft, IsNamed, Signed}
+use Rattle.publickey_login.specs.Signatures.{BySshd, IsLeft, Signed}
 use Rattle.publickey_login.specs.Sources.{IsCertificateSource, IsKeySource, authorities_of}
 use Rattle.publickey_login.specs.declared.grant.PublickeyGrant.{PublickeyGrant}
 
@@ -37,7 +37,7 @@ pub record GrantsKey (l : Login) (k : Key) (g : PublickeyGrant) : Type 0 where
 
 -- whom the policy of certificates is asked about: who has that name, by those authorities
 abbrev pub policy_login : Login → Certificate → List Fingerprint → List ℕ → policy.Login
-policy_login l c authorities name = record { accepts = λ _. true; revokes = l.revokes; authorities = authorities; time = l.time; user = name; offered = c.signed.key; blob = l.offer.blob; least_rsa_bits = l.trusted.least_rsa_bits; client = l.client }
+policy_login l c authorities name = record { accepts = λ _. true; revokes = l.revokes; authorities = authorities; time = l.time; user = name; blob = l.offer.blob; least_rsa_bits = l.trusted.least_rsa_bits; client = l.client }
 
 -- The certificate that is offered: sshd accepts its authority's key, a source lets it in for a name,
 -- and so does the policy of certificates; the login is bound to what both say.
@@ -88,17 +88,7 @@ pub record IsLogin (accepts : Question → Bool) (l : Login) (s : Signed) (g : P
 
 -- ---- the query without a signature
 
--- All is right of what is offered but the authority's signature, about which this question is left:
--- whoever signs with it is granted something.
-pub record IsPendingOffer (l : Login) (authority : Option (Option Question)) : Type 0 where
-  pub grant : PublickeyGrant
-  pub key : Key
-  pub form : KeyForm
-  pub grants : Grants l grant authority key form
-  pub named : IsNamed l.offer.algorithm key form
-
--- What is offered lets in whoever signs with it (RFC 4252, section 7: the query without a signature).
-pub record MayOffer (accepts : Question → Bool) (l : Login) : Type 0 where
-  pub authority : Option (Option Question)
-  pub pending : IsPendingOffer l authority
-  pub certified : IsAnswered accepts authority
+-- What is offered lets in whoever signs with it: as where sshd verifies the client's signature, about
+-- which nothing is asked (RFC 4252, section 7).
+abbrev pub MayOffer : (Question → Bool) → Login → Type 0
+MayOffer accepts l = (g : PublickeyGrant) × IsLogin accepts l BySshd g

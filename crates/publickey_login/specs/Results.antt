@@ -19,7 +19,7 @@ use Rattle.user_keys.specs.declared.grant.NamedLine.{NamedLine}
 use Rattle.user_keys.specs.declared.login.UserLogin as code
 use Rattle.user_keys.specs.declared.refusal.UserRefusal.{UserRefusal}
 use Rattle.user_keys.specs.declared.refusal.UserRefusal.TheVariants as why
-use Rattle.publickey_login.specs.Grants.{Grants, GrantsCertificate, GrantsKey, IsAnswered, IsPending, IsPendingOffer}
+use Rattle.publickey_login.specs.Grants.{Grants, GrantsCertificate, GrantsKey, IsAnswered, IsPending}
 use Rattle.publickey_login.specs.Logins.{Login, Text}
 use Rattle.publickey_login.specs.Searches.{AuthorityLine, Found, GoesOn, IsFoundBy, IsFoundIn, KeyLine, PrincipalLine, Sought, by_lines}
 use Rattle.publickey_login.specs.Stops.{AuthorityRefusesFirst, HasNone, IsUnclearBy, IsWhy, IsWhyNoAuthority, IsWhyNoCertificate, IsWhyNoKey, IsWhyNothing, IsWhyStopped, IsWhyUnanswered, RefusesFirst, RefusesWith, source_in}
@@ -30,7 +30,6 @@ use Rattle.publickey_login.specs.declared.grant.PublickeyGrant.{PublickeyGrant}
 use Rattle.publickey_login.specs.declared.grant.Source.{Source}
 use Rattle.publickey_login.specs.declared.grant.Source.TheVariants as source
 use Rattle.publickey_login.specs.declared.held.Held.{Held}
-use Rattle.publickey_login.specs.declared.offered.PendingOffer.{PendingOffer}
 use Rattle.publickey_login.specs.declared.pending_login.Answers.{Answers}
 use Rattle.publickey_login.specs.declared.pending_login.Pending.{Pending}
 use Rattle.publickey_login.specs.declared.refusal.PublickeyRefusal.{PublickeyRefusal}
@@ -47,11 +46,11 @@ use Rattle.publickey_login.specs.declared.trusted.Trusted.{Trusted}
 
 -- the login that lines are asked about, whatever text it holds
 abbrev pub asked_of : code.UserLogin → UserLogin
-asked_of u = by_lines (users.login_of u None) []
+asked_of u = by_lines (users.login_of u) []
 
 -- sshd accepts the key whose lines are sought.
 abbrev pub CanSeek : code.UserLogin → Sought → Type 0
-CanSeek login KeyLine = IsKey (key_of login.offered.now) × IsTrue (openssh_accepts_key login.least_rsa_bits (key_of login.offered.now))
+CanSeek login (KeyLine k) = IsKey k × IsTrue (openssh_accepts_key login.least_rsa_bits k)
 CanSeek login (AuthorityLine c) = IsCertificate c × IsTrue (openssh_accepts_key 0 c.signed.signature_key)
 CanSeek login (PrincipalLine c) = Unit {0}
 
@@ -65,7 +64,7 @@ FindsText u s text (Err r) = r ≢ why.Memory → IsWhy u s text r × ((f : Foun
 
 -- For a principal the first text that has a line decides.
 abbrev pub decides_alone : Sought → Bool
-decides_alone KeyLine = false
+decides_alone (KeyLine k) = false
 decides_alone (AuthorityLine c) = false
 decides_alone (PrincipalLine c) = true
 
@@ -86,7 +85,7 @@ SearchesIn u s of texts (Err r) = r ≢ refusal.Memory → IsWhyStopped u s of t
 
 -- The login that lines are asked about is this one's, by those whom the server trusts.
 pub record AsksOf (l : Login) (u : code.UserLogin) (t : Trusted) : Type 0 where
-  pub user : asked_of u ≡ user_of l (key_of u.offered.now)
+  pub user : asked_of u ≡ user_of l
   pub trusted : trusted_of t ≡ l.trusted
 
 -- It is that source; or there is none for that, out of memory aside.
@@ -147,15 +146,6 @@ abbrev pub OffersExactly : Type 0 → Result (Unit {0}) PublickeyRefusal → Typ
 OffersExactly Is (Ok u) = Is
 OffersExactly Is (Err r) = r ≢ refusal.Memory → Is → ⊥
 
-abbrev pub offered_authority_in : PendingOffer → Option (Option Question)
-offered_authority_in p = option_map asks p.authority
-
--- Out of memory aside, Ok exactly if all is right but the authority's signature, and then with its
--- question.
-abbrev pub OfferPendsExactly : Login → Result PendingOffer PublickeyRefusal → Type 0
-OfferPendsExactly l (Ok p) = IsPendingOffer l (offered_authority_in p)
-OfferPendsExactly l (Err r) = r ≢ refusal.Memory → (authority : Option (Option Question)) → IsPendingOffer l authority → ⊥
-
 -- ---- the answers
 
 -- The answer to a question that was asked is yes; what was not asked needs none.
@@ -167,11 +157,6 @@ IsYes (Some asked) answer = answer ≡ true
 abbrev pub Decides : Pending → Answers → Result PublickeyGrant PublickeyRefusal → Type 0
 Decides p a (Ok g) = (g ≡ grant_in p) × IsYes (authority_in p) a.authority × IsYes (client_in p) a.client
 Decides p a (Err r) = ((IsYes (authority_in p) a.authority → ⊥) × (r ≡ refusal.Certificate (Invalid Signature))) ⊎ (IsYes (authority_in p) a.authority × (IsYes (client_in p) a.client → ⊥) × (r ≡ refusal.NotSigned))
-
--- With yes to what is asked whoever signs is let in.
-abbrev pub DecidesOffer : PendingOffer → Bool → Result (Unit {0}) PublickeyRefusal → Type 0
-DecidesOffer p answer (Ok u) = IsYes (offered_authority_in p) answer
-DecidesOffer p answer (Err r) = (IsYes (offered_authority_in p) answer → ⊥) × (r ≡ refusal.Certificate (Invalid Signature))
 
 -- Out of memory aside, that verifier's answers decide.
 abbrev pub DecidesBy : (Question → Bool) → Pending → Result PublickeyGrant PublickeyRefusal → Type 0

@@ -4,11 +4,12 @@ use Rattle.std.specs.List.{Any}
 use Rattle.std.specs.Str.Lines.{lines}
 use Rattle.login_terms.specs.Terms.{Terms}
 use Rattle.sshkey_model.specs.Certificates.{Certificate}
-use Rattle.user_keys.specs.CertificateLogins.{IsLineFor, by}
+use Rattle.sshkey_model.specs.Keys.{Key}
+use Rattle.user_keys.specs.CertificateLogins.{IsLineFor}
 use Rattle.user_keys.specs.FirstLines.{EndsBy, LetsFirst}
 use Rattle.user_keys.specs.PrincipalLogins.{DecidesFirst, IsPrincipalLine, RefusesPrincipal}
 use Rattle.user_keys.specs.Principals.{Decides, MayDecide, lines_at_feeds}
-use Rattle.user_keys.specs.UserLogins.{Ends, Lets, MayLet, UserLogin}
+use Rattle.user_keys.specs.UserLogins.{Ends, Lets, MayLet, OfCertificate, OfKey, UserLogin}
 use Rattle.publickey_login.specs.Logins.{Read, Text, Unreadable}
 
 -- ---- what is sought
@@ -16,7 +17,7 @@ use Rattle.publickey_login.specs.Logins.{Read, Text, Unreadable}
 -- a line of the key that is offered; or of the authority of the certificate that is; or for one of
 -- its principals
 pub data Sought : Type 0 where
-  KeyLine : Sought
+  KeyLine : Key → Sought
   AuthorityLine PrincipalLine : Certificate → Sought
 
 -- the line's number, what it says, and the name for which it lets a certificate in
@@ -39,19 +40,19 @@ in_principals u text = by_lines u (lines_at_feeds text)
 
 -- It is the first line of the text that is sought, and lets in.
 abbrev pub IsFoundBy : UserLogin → Sought → List ℕ → Found → Type 0
-IsFoundBy u KeyLine text f = LetsFirst (Lets (in_text u text)) (MayLet (in_text u text)) (lines text) f.line f.terms × (f.name ≡ [])
+IsFoundBy u (KeyLine k) text f = LetsFirst (Lets (in_text u text) (OfKey k)) (MayLet (in_text u text) (OfKey k)) (lines text) f.line f.terms × (f.name ≡ [])
 IsFoundBy u (AuthorityLine c) text f = IsLineFor (in_text u text) c f.line f.terms f.name
 IsFoundBy u (PrincipalLine c) text f = IsPrincipalLine (in_principals u text) c f.line f.terms f.name
 
 -- No line of the text lets in or may do so; or none is for a principal, whatever it says.
 abbrev pub Passes : UserLogin → Sought → List ℕ → Type 0
-Passes u KeyLine text = ¬ Any (Ends (in_text u text)) (lines text)
-Passes u (AuthorityLine c) text = ¬ Any (Ends (by (in_text u text) c)) (lines text)
+Passes u (KeyLine k) text = ¬ Any (Ends (in_text u text) (OfKey k)) (lines text)
+Passes u (AuthorityLine c) text = ¬ Any (Ends (in_text u text) (OfCertificate c)) (lines text)
 Passes u (PrincipalLine c) text = ¬ Any (EndsBy (Decides c) (MayDecide c)) (lines_at_feeds text)
 
 -- The first line that is for a principal refuses.
 abbrev pub RefusesBy : UserLogin → Sought → List ℕ → Type 0
-RefusesBy u KeyLine text = ⊥
+RefusesBy u (KeyLine k) text = ⊥
 RefusesBy u (AuthorityLine c) text = ⊥
 RefusesBy u (PrincipalLine c) text = (n : ℕ) × (t : Terms) × (name : List ℕ) × DecidesFirst c (lines_at_feeds text) n t name × RefusesPrincipal (in_principals u text) c t
 

@@ -15,13 +15,12 @@ use Rattle.sshkey_model.specs.Refusals.{has_trusted_authority}
 use Rattle.sshkey_model.specs.Verification.{Question}
 use Rattle.sshkey_userauth.specs.declared.judgement.name.KeyForm.{KeyForm}
 use Rattle.user_keys.specs.Answers.{IsWhyNoLine}
-use Rattle.user_keys.specs.CertificateLogins.{by}
 use Rattle.user_keys.specs.PrincipalLogins.{IsWhyUndecided}
-use Rattle.user_keys.specs.UserLogins.{UserLogin}
+use Rattle.user_keys.specs.UserLogins.{OfCertificate, OfKey, UserLogin}
 use Rattle.user_keys.specs.declared.refusal.Reason.{Reason}
 use Rattle.user_keys.specs.declared.refusal.UserRefusal.{UserRefusal}
 use Rattle.user_keys.specs.declared.refusal.UserRefusal.TheVariants as why
-use Rattle.publickey_login.specs.Grants.{Grants, IsAnswered, IsPending, IsPendingOffer, policy_login, required_of}
+use Rattle.publickey_login.specs.Grants.{Grants, IsAnswered, IsPending, policy_login, required_of}
 use Rattle.publickey_login.specs.Logins.{Files, InCertificate, Login, Principals, Read, Text, Unreadable}
 use Rattle.publickey_login.specs.Refusals.{IsWhyUnnamed, IsWhyUnsigned}
 use Rattle.publickey_login.specs.Searches.{ArePassed, AuthorityLine, Found, GoesOn, IsOfFirst, KeyLine, Passes, PrincipalLine, Sought, in_principals, in_text}
@@ -40,8 +39,8 @@ use Rattle.publickey_login.specs.declared.search.TextList.TheVariants as list
 
 -- why no line of the text lets in
 abbrev pub IsWhy : UserLogin → Sought → List ℕ → UserRefusal → Type 0
-IsWhy u KeyLine text r = IsWhyNoLine (in_text u text) r
-IsWhy u (AuthorityLine c) text r = IsWhyNoLine (by (in_text u text) c) r
+IsWhy u (KeyLine k) text r = IsWhyNoLine (in_text u text) (OfKey k) r
+IsWhy u (AuthorityLine c) text r = IsWhyNoLine (in_text u text) (OfCertificate c) r
 IsWhy u (PrincipalLine c) text r = IsWhyUndecided (in_principals u text) c r
 
 -- Whether the line of that number lets in cannot be told.
@@ -92,7 +91,7 @@ RefusesFirst u s of texts None = ArePassed (HasNone u s) texts
 -- The same of texts of principals, which are asked where the authority is trusted.
 abbrev pub PrincipalsRefuseFirst : Login → Certificate → Principals → Option LineRefusal → Type 0
 PrincipalsRefuseFirst l c InCertificate first = first ≡ None
-PrincipalsRefuseFirst l c (Files texts) first = RefusesFirst (user_of l c.signed.key) (PrincipalLine c) list.Principals texts first
+PrincipalsRefuseFirst l c (Files texts) first = RefusesFirst (user_of l) (PrincipalLine c) list.Principals texts first
 
 abbrev pub AuthorityRefusesFirst : Login → Certificate → Option LineRefusal → Type 0
 AuthorityRefusesFirst l c first = ((has_trusted_authority l.trusted.authorities c ≡ false) × (first ≡ None))
@@ -106,35 +105,35 @@ refusal_for None = refusal.NotListed
 -- Of the files and the command's texts what refuses the key first says why.
 abbrev pub IsKeyRefused : Login → Key → PublickeyRefusal → Type 0
 IsKeyRefused l k r = (files : Option LineRefusal) × (command : Option LineRefusal)
-    × RefusesFirst (user_of l k) KeyLine list.AuthorizedKeys l.trusted.authorized_keys files
-    × RefusesFirst (user_of l k) KeyLine list.Command l.trusted.command_keys command
+    × RefusesFirst (user_of l) (KeyLine k) list.AuthorizedKeys l.trusted.authorized_keys files
+    × RefusesFirst (user_of l) (KeyLine k) list.Command l.trusted.command_keys command
     × (r ≡ refusal_for (option_or files command))
 
 -- The same of a certificate, with the texts of principals between them.
 abbrev pub IsCertificateRefused : Login → Certificate → PublickeyRefusal → Type 0
 IsCertificateRefused l c r = (files : Option LineRefusal) × (authority : Option LineRefusal) × (command : Option LineRefusal)
-    × RefusesFirst (user_of l c.signed.key) (AuthorityLine c) list.AuthorizedKeys l.trusted.authorized_keys files
+    × RefusesFirst (user_of l) (AuthorityLine c) list.AuthorizedKeys l.trusted.authorized_keys files
     × AuthorityRefusesFirst l c authority
-    × RefusesFirst (user_of l c.signed.key) (AuthorityLine c) list.Command l.trusted.command_keys command
+    × RefusesFirst (user_of l) (AuthorityLine c) list.Command l.trusted.command_keys command
     × (r ≡ refusal_for (option_or files (option_or authority command)))
 
 -- ---- no source
 
 -- The files or the command's texts stop the search; or nothing does, and nothing lets the key in.
 abbrev pub IsWhyNoKeySource : Login → Key → PublickeyRefusal → Type 0
-IsWhyNoKeySource l k r = IsWhyStopped (user_of l k) KeyLine list.AuthorizedKeys l.trusted.authorized_keys r
-    ⊎ (GoesOn (user_of l k) KeyLine l.trusted.authorized_keys × IsWhyStopped (user_of l k) KeyLine list.Command l.trusted.command_keys r)
-    ⊎ (GoesOn (user_of l k) KeyLine l.trusted.authorized_keys × GoesOn (user_of l k) KeyLine l.trusted.command_keys × IsKeyRefused l k r)
+IsWhyNoKeySource l k r = IsWhyStopped (user_of l) (KeyLine k) list.AuthorizedKeys l.trusted.authorized_keys r
+    ⊎ (GoesOn (user_of l) (KeyLine k) l.trusted.authorized_keys × IsWhyStopped (user_of l) (KeyLine k) list.Command l.trusted.command_keys r)
+    ⊎ (GoesOn (user_of l) (KeyLine k) l.trusted.authorized_keys × GoesOn (user_of l) (KeyLine k) l.trusted.command_keys × IsKeyRefused l k r)
 
 -- The authority is trusted, and its texts of principals stop the search.
 abbrev pub IsWhyNoAuthority : Login → Certificate → PublickeyRefusal → Type 0
-IsWhyNoAuthority l c r = IsTrue (has_trusted_authority l.trusted.authorities c) × ((texts : List Text) × (l.trusted.principals ≡ Files texts) × IsWhyStopped (user_of l c.signed.key) (PrincipalLine c) list.Principals texts r)
+IsWhyNoAuthority l c r = IsTrue (has_trusted_authority l.trusted.authorities c) × ((texts : List Text) × (l.trusted.principals ≡ Files texts) × IsWhyStopped (user_of l) (PrincipalLine c) list.Principals texts r)
 
 abbrev pub IsWhyNoSource : Login → Certificate → PublickeyRefusal → Type 0
-IsWhyNoSource l c r = IsWhyStopped (user_of l c.signed.key) (AuthorityLine c) list.AuthorizedKeys l.trusted.authorized_keys r
+IsWhyNoSource l c r = IsWhyStopped (user_of l) (AuthorityLine c) list.AuthorizedKeys l.trusted.authorized_keys r
     ⊎ (FilesGoOn l c × IsWhyNoAuthority l c r)
-    ⊎ (FilesGoOn l c × AuthorityGoesOn l c × IsWhyStopped (user_of l c.signed.key) (AuthorityLine c) list.Command l.trusted.command_keys r)
-    ⊎ (FilesGoOn l c × AuthorityGoesOn l c × GoesOn (user_of l c.signed.key) (AuthorityLine c) l.trusted.command_keys × IsCertificateRefused l c r)
+    ⊎ (FilesGoOn l c × AuthorityGoesOn l c × IsWhyStopped (user_of l) (AuthorityLine c) list.Command l.trusted.command_keys r)
+    ⊎ (FilesGoOn l c × AuthorityGoesOn l c × GoesOn (user_of l) (AuthorityLine c) l.trusted.command_keys × IsCertificateRefused l c r)
 
 -- ---- nothing is granted
 
@@ -178,13 +177,3 @@ IsWhyUnanswered accepts authority client r = IsWhyUncertified accepts authority 
 abbrev pub IsWhyNoLogin : (Question → Bool) → Login → Signed → PublickeyRefusal → Type 0
 IsWhyNoLogin accepts l s r = IsWhyNotPending l s r
     ⊎ ((g : PublickeyGrant) × (authority : Option (Option Question)) × (client : Option (Option Question)) × IsPending l s g authority client × IsWhyUnanswered accepts authority client r)
-
--- Nothing is granted; or the name is of another algorithm.
-abbrev pub IsWhyOfferNotPending : Login → PublickeyRefusal → Type 0
-IsWhyOfferNotPending l r = IsWhyNothing l r
-    ⊎ ((g : PublickeyGrant) × (authority : Option (Option Question)) × (k : Key) × (form : KeyForm) × Grants l g authority k form × IsWhyUnnamed l.offer.algorithm k form r)
-
--- Or the authority's signature is none.
-abbrev pub IsWhyNoOffer : (Question → Bool) → Login → PublickeyRefusal → Type 0
-IsWhyNoOffer accepts l r = IsWhyOfferNotPending l r
-    ⊎ ((authority : Option (Option Question)) × IsPendingOffer l authority × IsWhyUncertified accepts authority r)

@@ -3,6 +3,7 @@ use Rattle.std.specs.Prelude.{◌≢◌, ℕ, List, Bool, Option, map, option_ma
 use Rattle.login_terms.specs.Terms.{terms_of}
 use Rattle.sshkey_cert.specs.CertificateValues.{certificate_of}
 use Rattle.sshkey_cert.specs.Validity.{fingerprints_of}
+use Rattle.sshkey_keys.specs.Keys.{key_of}
 use Rattle.sshkey_keys.specs.Questions.{asks}
 use Rattle.sshkey_keys.specs.declared.signature_question.SignatureQuestion.{SignatureQuestion}
 use Rattle.sshkey_krl.specs.Revocation.{CertificateIdentity}
@@ -70,7 +71,7 @@ place_known p = record p { client = logins.client_known p.client }
 -- ---- what is sought and found
 
 abbrev pub sought_of : Sought → searches.Sought
-sought_of sought.KeyLine = searches.KeyLine
+sought_of (sought.KeyLine k) = searches.KeyLine (key_of k.now)
 sought_of (sought.AuthorityLine c) = searches.AuthorityLine (certificate_of c.now)
 sought_of (sought.PrincipalLine c) = searches.PrincipalLine (certificate_of c.now)
 

@@ -1,10 +1,10 @@
 //! Worked examples of who has signed, on both sides of each edge.
 #![tactic(auto, unfolding(crate::specs::Searches::IsOfFirst, crate::specs::Searches::ArePassed))]
 
-ghost use Rattle.publickey_login.specs.Examples.{Flagless, Flags, Left, Named};
+ghost use Rattle.publickey_login.specs.Examples.{Flagless, Flags, Left, Named, Signs};
 ghost use Rattle.publickey_login.specs.GrantExamples.{Certificates, Keys, Logins, Refusals};
 ghost use Rattle.publickey_login.specs.LoginExamples.{Answered, Authorities, Counted, FirstTexts, Listed, OwnTerms, PassedTexts, Places, Required, Sources};
-ghost use Rattle.publickey_login.specs.RefusalExamples.{DecidesAlone, FirstRefusals, OfferAnswers, Offers, PrincipalRefusals, RefusedCertificates, RefusedKeys};
+ghost use Rattle.publickey_login.specs.RefusalExamples.{DecidesAlone, Decisions, Ends, FirstRefusals, Offers, PrincipalRefusals, RefusedCertificates, RefusedKeys, UnreadTexts};
 
 /// The names under which a key or a certificate signs.
 pub fn named()
@@ -24,6 +24,11 @@ pub fn flagless()
 /// What is left to ask.
 pub fn left()
     ensures { Left }
+{}
+
+/// What a client signs.
+pub fn signs()
+    ensures { Signs }
 {}
 
 /// Which of several texts counts.
@@ -96,6 +101,17 @@ pub fn refusals()
     ensures { Refusals }
 {}
 
+/// Which text that could not be read ends the search.
+#[tactic(auto, unfolding(crate::specs::Stops::IsUnread))]
+pub fn unread_texts()
+    ensures { UnreadTexts }
+{}
+
+/// What is named that ends it.
+pub fn ends()
+    ensures { Ends }
+{}
+
 /// Which text refuses first.
 pub fn first_refusals()
     ensures { FirstRefusals }
@@ -126,7 +142,7 @@ pub fn offers()
     ensures { Offers }
 {}
 
-/// What counts as an answer to an offer.
-pub fn offer_answers()
-    ensures { OfferAnswers }
+/// What the answers decide.
+pub fn decisions()
+    ensures { Decisions }
 {}

@@ -90,8 +90,8 @@ fn hold_key<R: Revocations>(
     if revocations.is_key_revoked(alloc, &key)? {
         return Err(PublickeyRefusal::Revoked);
     }
-    let login = user_login(offer, trusted, place, &key);
-    let Origin { source, line } = key_origin(alloc, &login, trusted)?;
+    let login = user_login(offer, trusted, place);
+    let Origin { source, line } = key_origin(alloc, &login, &key, trusted)?;
     let fingerprint = fingerprint_of(alloc, &key)?;
     let NamedLine { first, name: _ } = line;
     let UserGrant {
@@ -134,13 +134,12 @@ fn hold_certificate<R: Revocations>(
     let Ok(key) = certificate.public_key().try_clone(alloc) else {
         return Err(PublickeyRefusal::Memory);
     };
-    let login = user_login(offer, trusted, place, &key);
+    let login = user_login(offer, trusted, place);
     let Origin { source, line } = certificate_origin(alloc, &login, &certificate, trusted)?;
     let signer = [fingerprint_of(alloc, certificate.signature_key())?];
     let policy_login = Login {
         certificate: offer.blob,
         user: line.name.as_str(),
-        offered: &key,
         unix_timestamp: place.unix_timestamp,
         authorities: authorities_of(source, &signer, trusted.authorities),
         least_rsa_bits: trusted.least_rsa_bits,
@@ -170,21 +169,14 @@ fn hold_certificate<R: Revocations>(
 }
 
 /// The login that lines are asked about.
-fn user_login<'a>(
-    offer: &'a Offer<'a>,
-    trusted: &Trusted,
-    place: &'a Place<'a>,
-    key: &'a KeyData,
-) -> UserLogin<'a>
+fn user_login<'a>(offer: &'a Offer<'a>, trusted: &Trusted, place: &'a Place<'a>) -> UserLogin<'a>
     ensures login { (revokes : List ℕ → CertificateIdentity → Bool) (revokes_key : List ℕ → Bool) →
         AsksOf (login_of offer.now trusted.now place.now revokes revokes_key) result trusted.now }
-    ensures key { result.offered.now ≡ key.now }
     ensures size { result.least_rsa_bits ≡ trusted.now.least_rsa_bits }
 {
     UserLogin {
         text: &[],
         user: offer.user,
-        offered: key,
         client: address_of(place.client),
         host: place.host,
         unix_timestamp: place.unix_timestamp,

@@ -1,27 +1,24 @@
 //! Who logs in.
 
-ghost use Rattle.sshkey_padding.specs.Padding.{padding};
+ghost use Rattle.openssh_limits.specs.Padding.{padding};
 ghost use Rattle.std.specs.Prelude.{◌≡◌, ◌≢◌, IfErr};
 ghost use Rattle.publickey_login.specs.Grants.{IsLogin, MayOffer, required_of};
-ghost use Rattle.publickey_login.specs.Logins.{client_known};
-ghost use Rattle.publickey_login.specs.Stops.{IsWhyNoLogin, IsWhyNoOffer, IsWhyNotPending, IsWhyOfferNotPending};
+ghost use Rattle.publickey_login.specs.Stops.{IsWhyNoLogin, IsWhyNotPending};
 ghost use Rattle.publickey_login.specs.declared.refusal.PublickeyRefusal.TheVariants.{Memory};
-ghost use Rattle.publickey_login.specs.Results.{GrantsExactly, OfferPendsExactly, OffersExactly, PendsExactly};
+ghost use Rattle.publickey_login.specs.Results.{GrantsExactly, OffersExactly, PendsExactly};
+ghost use Rattle.publickey_login.specs.Signatures.{BySshd};
 ghost use Rattle.publickey_login.specs.Values.{login_of, place_known, place_seen, signed_of};
 
 use crate::grant::PublickeyGrant;
 use crate::held::{Held, hold};
 use crate::offer::Offer;
-use crate::offered::PendingOffer;
-use crate::pending_login::{Pending, is_answered};
-use crate::place::Place;
+use crate::pending_login::Pending;
+use crate::place::{Place, client_known};
 use crate::refusal::PublickeyRefusal;
-use crate::signed::{Signed, check_name, client_question};
+use crate::signed::{Signed, client_question};
 use crate::trusted::Trusted;
-use login_policy::Client;
 use sshkey_keys::RawVerifier;
 use sshkey_krl::Revocations;
-use sshkey_padding::Padding;
 use sshkey_userauth::Requirements;
 use std::alloc::Global;
 
@@ -116,12 +113,14 @@ pub fn pending<R: Revocations>(
 }
 
 /// Whether what is offered lets in whoever signs with it: the answer to the query without a
-/// signature (RFC 4252, section 7). It grants nothing. An address that is left to the caller is
-/// `Client::Unknown` here.
+/// signature (RFC 4252, section 7). It grants nothing. It is `log_in` where sshd(8) verifies the
+/// client's signature, but that an address that is left to the caller is `Client::Unknown` here: so
+/// the verifier is asked about the authority's signature alone. Where it answers later or elsewhere,
+/// ask `pending` so, and keep no grant.
 ///
 /// It fails with what `log_in` fails with first, but for the client's signature: of what
 /// `client_question` fails with only with `Algorithm`, for a name that is told and is none of the
-/// key's. It is `pending_offer`, and then the verifier's answer.
+/// key's.
 pub fn may_offer<R: Revocations, V: RawVerifier>(
     alloc: Global,
     offer: &Offer,
@@ -133,44 +132,27 @@ pub fn may_offer<R: Revocations, V: RawVerifier>(
     ensures exactly { OffersExactly (MayOffer (padding (V.accepts verifier.now))
         (login_of offer.now trusted.now (place_known place.now)
         (R.revokes revocations.now) (R.revokes_key revocations.now))) result }
-    ensures refused { IfErr result (λ r. r ≢ Memory → IsWhyNoOffer
+    ensures refused { IfErr result (λ r. r ≢ Memory → IsWhyNoLogin
         (padding (V.accepts verifier.now)) (login_of offer.now trusted.now (place_known place.now)
-        (R.revokes revocations.now) (R.revokes_key revocations.now)) r) }
-{
-    let held = pending_offer(alloc, offer, trusted, place, revocations)?;
-    let padded = Padding { verifier };
-    let is_certified = is_answered(&held.authority, &padded)?;
-    held.decide(is_certified)
-}
-
-/// All that `may_offer` asks but the authority's signature: `Ok` exactly where it would let offer if a
-/// verifier said yes, and then with the question that is left, of a certificate. It grants nothing. It
-/// fails with what `may_offer` fails with first.
-pub fn pending_offer<R: Revocations>(
-    alloc: Global,
-    offer: &Offer,
-    trusted: &Trusted,
-    place: &Place,
-    revocations: &R,
-) -> Result<PendingOffer, PublickeyRefusal>
-    ensures exactly { OfferPendsExactly (login_of offer.now trusted.now (place_known place.now)
-        (R.revokes revocations.now) (R.revokes_key revocations.now)) result }
-    ensures refused { IfErr result (λ r. r ≢ Memory → IsWhyOfferNotPending
-        (login_of offer.now trusted.now (place_known place.now)
-        (R.revokes revocations.now) (R.revokes_key revocations.now)) r) }
+        (R.revokes revocations.now) (R.revokes_key revocations.now)) BySshd r) }
 {
     let place = Place {
         client: client_known(place.client),
         ..*place
     };
-    let Held {
-        grant: _,
-        authority,
-        key,
-        form,
-    } = hold(alloc, offer, trusted, &place, revocations)?;
-    check_name(offer.algorithm, &key, form)?;
-    Ok(PendingOffer { authority })
+    let signed = Signed::BySshd;
+    match log_in(
+        alloc,
+        offer,
+        &signed,
+        trusted,
+        &place,
+        revocations,
+        verifier,
+    ) {
+        Ok(_) => Ok(()),
+        Err(refusal) => Err(refusal),
+    }
 }
 
 /// What is required of the flags of a security key: by the server, or by the grant.
@@ -193,14 +175,4 @@ fn place_seen<'a>(signed: &Signed, place: &Place<'a>) -> Place<'a>
         Signed::Request { .. } | Signed::ByTransport { .. } => client_known(place.client),
     };
     Place { client, ..*place }
-}
-
-/// The client's place, where an address that is left to the caller is not known.
-fn client_known(client: Client) -> Client
-    ensures { result ≡ client_known client }
-{
-    match client {
-        Client::At(address) => Client::At(address),
-        Client::Unknown | Client::LeftToCaller => Client::Unknown,
-    }
 }

@@ -4,7 +4,7 @@ ghost use Rattle.std.specs.Prelude.{◌≡◌, ◌↔◌, IfOk, IsTrue, option_m
 ghost use Rattle.login_policy.specs.declared.refusal.LoginRefusal.TheVariants.{Invalid};
 ghost use Rattle.sshkey_cert.specs.declared.certificate.refusal.CertificateRefusal.TheVariants.{Signature};
 ghost use Rattle.sshkey_keys.specs.Questions.{asks};
-ghost use Rattle.sshkey_padding.specs.Padding.{padding};
+ghost use Rattle.openssh_limits.specs.Padding.{padding};
 ghost use Rattle.publickey_login.specs.Grants.{IsAnswered};
 ghost use Rattle.publickey_login.specs.Results.{Decides, DecidesBy, authority_in, client_in};
 ghost use Rattle.publickey_login.specs.declared.refusal.PublickeyRefusal.TheVariants.{Certificate};
@@ -12,9 +12,9 @@ ghost use Rattle.publickey_login.specs.declared.refusal.PublickeyRefusal.TheVari
 use crate::grant::PublickeyGrant;
 use crate::refusal::PublickeyRefusal;
 use login_policy::LoginRefusal;
+use openssh_limits::Padding;
 use sshkey_cert::CertificateRefusal;
 use sshkey_keys::{RawVerifier, SignatureQuestion};
-use sshkey_padding::Padding;
 use std::alloc::AllocError;
 
 /// A login of which all is right but the signatures, which nobody has looked at: nothing is granted
@@ -69,7 +69,7 @@ impl Pending {
     }
 
     /// What `decide` says of the answers of this verifier, which is asked the questions: about an RSA
-    /// signature with the zeros in front that its signer left out (`sshkey_padding::Padding`).
+    /// signature with the zeros in front that its signer left out (`openssh_limits::Padding`).
     /// `Memory` if memory runs out.
     pub fn decide_by<V: RawVerifier>(self, verifier: &V) -> Result<PublickeyGrant, PublickeyRefusal>
         ensures { DecidesBy (padding (V.accepts verifier.now)) self result }
@@ -89,14 +89,14 @@ impl Pending {
 }
 
 /// Why a certificate is refused whose signature is none of its authority's.
-pub(crate) fn uncertified() -> PublickeyRefusal
+fn uncertified() -> PublickeyRefusal
     ensures { result ≡ Certificate (Invalid Signature) }
 {
     PublickeyRefusal::Certificate(LoginRefusal::Invalid(CertificateRefusal::Signature))
 }
 
 /// Whether the verifier says yes to the question, if there is one.
-pub(crate) fn is_answered<V: RawVerifier>(
+fn is_answered<V: RawVerifier>(
     question: &Option<SignatureQuestion<'static>>,
     verifier: &V,
 ) -> Result<bool, AllocError>

@@ -1,5 +1,8 @@
 //! Where and when a client asks.
 
+ghost use Rattle.std.specs.Prelude.{◌≡◌};
+ghost use Rattle.publickey_login.specs.Logins.{client_known};
+
 use login_policy::Client;
 
 /// Where a client is, and when it asks.
@@ -13,4 +16,14 @@ pub struct Place<'a> {
     pub host: Option<&'a str>,
     /// The time, in seconds since 1970.
     pub unix_timestamp: u64,
+}
+
+/// The client's place, where an address that is left to the caller is not known.
+pub fn client_known(client: Client) -> Client
+    ensures { result ≡ client_known client }
+{
+    match client {
+        Client::At(address) => Client::At(address),
+        Client::Unknown | Client::LeftToCaller => Client::Unknown,
+    }
 }

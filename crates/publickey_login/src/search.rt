@@ -12,6 +12,7 @@ use crate::grant::Source;
 use crate::refusal::PublickeyRefusal;
 use crate::trusted::Text;
 use sshkey_cert::Certificate;
+use sshkey_keys::KeyData;
 use std::alloc::Global;
 use user_keys::{
     NamedLine, Reason, UserLogin, UserRefusal, find_authority_line, find_key_line,
@@ -22,7 +23,7 @@ use user_keys::{
 #[derive(Clone, Copy)]
 pub(crate) enum Sought<'a> {
     /// A line of the key that is offered.
-    KeyLine,
+    KeyLine(&'a KeyData),
     /// A line of the certificate's authority.
     AuthorityLine(&'a Certificate),
     /// A line for one of the certificate's principals.
@@ -153,7 +154,7 @@ fn decides_alone(sought: Sought) -> bool
     ensures { result ≡ decides_alone (sought_of sought.entry) }
 {
     match sought {
-        Sought::KeyLine | Sought::AuthorityLine(_) => false,
+        Sought::KeyLine(_) | Sought::AuthorityLine(_) => false,
         Sought::PrincipalLine(_) => true,
     }
 }
@@ -164,7 +165,7 @@ fn find_line(alloc: Global, login: &UserLogin, sought: Sought) -> Result<NamedLi
     ensures { FindsText (asked_of login.now) (sought_of sought.entry) login.now.text.now result }
 {
     match sought {
-        Sought::KeyLine => match find_key_line(alloc, login) {
+        Sought::KeyLine(key) => match find_key_line(alloc, login, key) {
             Ok(first) => Ok(NamedLine {
                 first,
                 name: String::new(alloc),

@@ -20,7 +20,7 @@ use crate::search::{Origin, Sought, SourceVerdict, TextList, find_in, refusal_fo
 use crate::trusted::{Principals, Trusted};
 use login_terms::Terms;
 use sshkey_cert::Certificate;
-use sshkey_keys::Fingerprint;
+use sshkey_keys::{Fingerprint, KeyData};
 use std::alloc::Global;
 use user_keys::{NamedLine, UserGrant, UserLogin, name_listed};
 
@@ -28,17 +28,17 @@ use user_keys::{NamedLine, UserGrant, UserLogin, name_listed};
 pub(crate) fn key_origin(
     alloc: Global,
     login: &UserLogin,
+    key: &KeyData,
     trusted: &Trusted,
 ) -> Result<Origin, PublickeyRefusal>
-    requires key { IsKey (key_of login.now.offered.now) }
-    requires accepted { IsTrue (openssh_accepts_key login.now.least_rsa_bits
-        (key_of login.now.offered.now)) }
+    requires key { IsKey (key_of key.now) }
+    requires accepted { IsTrue (openssh_accepts_key login.now.least_rsa_bits (key_of key.now)) }
     ensures { (l : Login) → AsksOf l login.now trusted.now
-        → Originates (IsKeySource l (key_of login.now.offered.now))
-        (IsWhyNoKeySource l (key_of login.now.offered.now)) result }
+        → Originates (IsKeySource l (key_of key.now)) (IsWhyNoKeySource l (key_of key.now))
+        result }
 {
     let texts = trusted.authorized_keys;
-    let sought = Sought::KeyLine;
+    let sought = Sought::KeyLine(key);
     let files = match find_in(alloc, texts, TextList::AuthorizedKeys, login, sought)? {
         SourceVerdict::Lets(origin) => return Ok(origin),
         SourceVerdict::Passes(first) => first,
@@ -61,7 +61,6 @@ pub(crate) fn certificate_origin(
     requires accepted { IsTrue (openssh_accepts_key 0
         (certificate_of certificate.now).signed.signature_key) }
     ensures { (l : Login) → AsksOf l login.now trusted.now
-        → key_of login.now.offered.now ≡ (certificate_of certificate.now).signed.key
         → Originates (IsCertificateSource l (certificate_of certificate.now))
         (IsWhyNoSource l (certificate_of certificate.now)) result }
 {
@@ -90,7 +89,6 @@ fn authority_origin(
     trusted: &Trusted,
 ) -> Result<SourceVerdict, PublickeyRefusal>
     ensures { (l : Login) → AsksOf l login.now trusted.now
-        → key_of login.now.offered.now ≡ (certificate_of certificate.now).signed.key
         → OriginatesBy l (certificate_of certificate.now) result }
 {
     if !is_trusted(alloc, certificate, trusted.authorities)? {

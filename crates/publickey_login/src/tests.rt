@@ -56,10 +56,10 @@ fn trusted<'a>(
     }
 }
 
-/// The authority's fingerprint, or none without memory.
-/// Texts of principals: a line for alice that is over, and one from elsewhere.
+/// Principals: a line for alice that is over, and one from elsewhere.
 const OVERS: &[u8] = b"bob\nexpiry-time=\"20200101\" alice\nfrom=\"198.51.100.1\" alice";
 
+/// The authority's fingerprint, or none without memory.
 fn authorities(alloc: Global) -> Vec<Fingerprint> {
     let mut found = Vec::new(alloc);
     if let Ok(key) = KeyDataRef::from_bytes(AUTHORITY) {

@@ -1,5 +1,5 @@
-pub use Rattle.sshkey_addresses.specs.Networks
-pub use Rattle.sshkey_addresses.specs.SourceAddresses
-pub use Rattle.sshkey_addresses.specs.Likeness
-pub use Rattle.sshkey_addresses.specs.FromLists
-pub use Rattle.sshkey_addresses.specs.AskedHosts
+pub use Rattle.sshkey_matching.specs.Networks
+pub use Rattle.sshkey_matching.specs.SourceAddresses
+pub use Rattle.sshkey_matching.specs.Likeness
+pub use Rattle.sshkey_matching.specs.FromLists
+pub use Rattle.sshkey_matching.specs.AskedHosts

@@ -1,3 +1,3 @@
-pub use Rattle.sshkey_cert_fields.specs.ToBeSignedValues
-pub use Rattle.sshkey_cert_fields.specs.ToBeSignedParts
-pub use Rattle.sshkey_cert_fields.specs.Comparisons
+pub use Rattle.sshkey_cert_values.specs.ToBeSignedValues
+pub use Rattle.sshkey_cert_values.specs.ToBeSignedParts
+pub use Rattle.sshkey_cert_values.specs.ToBeSignedComparisons

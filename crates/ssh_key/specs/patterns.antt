@@ -1,2 +1,2 @@
-pub use Rattle.sshkey_patterns.specs.Patterns
-pub use Rattle.sshkey_patterns.specs.LetterCases
+pub use Rattle.sshkey_matching.specs.Patterns
+pub use Rattle.sshkey_matching.specs.LetterCases

@@ -1,6 +1,6 @@
 //! known_hosts: which keys hosts have.
 
 pub use sshkey_known_hosts::{
-    Entry, HmacSha1, HostHasher, HostPatterns, KnownHosts, Marker, OpenSshKnownHosts, Verdict,
-    authorities, key_verdict, unreadable_line,
+    Entry, HeldLine, HmacSha1, HostHasher, HostPatterns, KnownHosts, Marker, OpenSshKnownHosts,
+    Verdict, authorities, hold_lines, key_verdict, texts_for, unreadable_line,
 };

@@ -1,3 +1,3 @@
 //! Patterns of names, as known_hosts and allowed signers have them (ssh_config(5), "PATTERNS").
 
-pub use sshkey_patterns::{LetterCase, matches_pattern, matches_pattern_list};
+pub use sshkey_matching::{LetterCase, matches_pattern, matches_pattern_list};

@@ -1,5 +1,9 @@
 //! The program `sshkey`: reads standard input whole, the line of a key or of a certificate or an
 //! entry file, and writes standard output.
+//!
+//! # What is proved, tested and trusted
+//!
+//! Of `main` only safety is proved. What it writes is `sshkey_tool`'s.
 #![tactic(auto)]
 
 use sshkey_tool::run;

@@ -1,4 +1,10 @@
 //! authorized_keys: who may log in (sshd(8), "AUTHORIZED_KEYS FILE FORMAT").
+//!
+//! # What is proved, tested and trusted
+//!
+//! It is proved which lines are entries, and what the options of a line are. Only OpenSSH can tell
+//! whether the definitions are right: `checks/entry-lines` compares drawn lines and 120 texts of
+//! options with it, and `checks/logins` 279 logins at a real sshd.
 #![tactic(auto)]
 
 mod authorized_keys;

@@ -5,3 +5,5 @@ pub mod Spreading
 pub mod Walks
 pub mod Pieces
 pub mod Windows
+pub mod ArmourBodies
+mod ArmourWorked

@@ -1,1 +1,4 @@
 pub mod Words64
+pub mod Armour
+pub mod ArmourReading
+pub mod ArmourExamples

@@ -10,13 +10,21 @@ ghost use Rattle.sshkey_calls.specs.Numbers.{fault_number};
 ghost use Rattle.sshkey_calls.specs.Questions.{TellsCertificateQuestion};
 ghost use Rattle.sshkey_calls.specs.Validations.{HasRenamedAuthority, IsGoodCertificate, IsGoodCertificateFor, SaysWhether, TellsFirst, TellsFirstFor, Verified, authorities_of};
 
-use sshkey_calls::{
-    CertificateFields, Question, Sha256Digest, certificate_fields, certificate_question,
-    check_certificate, check_certificate_for,
-};
+use sshkey_calls::fields::fields_of;
+use sshkey_calls::number::{DONE, TEXT, error_status};
+use sshkey_calls::question::ask;
+use sshkey_calls::validity::validate;
+use sshkey_calls::{CertificateFields, Question, Sha256Digest};
+use sshkey_cert_ref::CertificateRef;
 use std::alloc::Global;
+use std::str;
 
-/// What has to be verified of a certificate: `sshkey_calls::certificate_question`.
+/// What has to be verified of the certificate that all the bytes spell.
+///
+/// Returns 0 with the question in the room, 2 where the room is too short for it, 1 if memory ran
+/// out, from 10 to 29 the fault of bytes that are no certificate, and 40 where the signature raises
+/// no question, since the key and its algorithm do not go together: such a certificate is not
+/// valid. With 2 the answer says how much room is needed, and the room is as it was.
 #[unsafe(no_mangle)]
 pub extern "C" fn raf_certificate_question(
     alloc: Global,
@@ -27,10 +35,21 @@ pub extern "C" fn raf_certificate_question(
     ensures { TellsCertificateQuestion certificate.now
         result answer.old answer.new room.old room.new }
 {
-    certificate_question(alloc, certificate, room, answer)
+    match CertificateRef::from_bytes(certificate) {
+        Ok(read) => ask(alloc, &read, room, answer),
+        Err(error) => error_status(error),
+    }
 }
 
-/// Whether a certificate is valid: `sshkey_calls::check_certificate`.
+/// Whether the bytes spell a certificate that is valid at that time, in seconds since 1970, for an
+/// authority with one of these SHA-256 fingerprints, where 1 says that its question was answered
+/// yes, and every other number that it was not.
+///
+/// Returns 0 if it is, 1 if memory ran out, from 10 to 29 the fault of bytes that are no
+/// certificate, and else what is wrong first: 30 for the signature, 31 for the authority, 32 for a
+/// time above 2^63 - 1, 33 for a time before `valid_after`, or not before `valid_before`. What a
+/// certificate is for, its critical options and whether it is revoked are not looked at. 1 is
+/// answered only for an RSA key under another name than `ssh-rsa`.
 #[unsafe(no_mangle)]
 pub extern "C" fn raf_check_certificate(
     alloc: Global,
@@ -49,10 +68,22 @@ pub extern "C" fn raf_check_certificate(
         → result ≡ fault_number fault }
     ensures memory { result ≡ 1 → HasRenamedAuthority certificate.now }
 {
-    check_certificate(alloc, certificate, unix_timestamp, authorities, is_verified)
+    validate(
+        alloc,
+        certificate,
+        unix_timestamp,
+        None,
+        authorities,
+        is_verified,
+    )
 }
 
-/// Whether a certificate is valid for a principal: `sshkey_calls::check_certificate_for`.
+/// The same for a principal, which the certificate must allow: it lists the principal, or nobody.
+/// Returns what `raf_check_certificate` does, and last 34 for a principal that is not allowed. 4,
+/// first of all, for a principal that is not UTF-8.
+///
+/// A certificate without principals allows everybody here (PROTOCOL.certkeys), while sshd(8)
+/// rejects it for a user.
 #[unsafe(no_mangle)]
 pub extern "C" fn raf_check_certificate_for(
     alloc: Global,
@@ -75,20 +106,31 @@ pub extern "C" fn raf_check_certificate_for(
     ensures text { (IsUtf8 principal.now → ⊥) → result ≡ 4 }
     ensures memory { result ≡ 1 → HasRenamedAuthority certificate.now }
 {
-    check_certificate_for(
-        alloc,
-        certificate,
-        unix_timestamp,
-        principal,
-        authorities,
-        is_verified,
-    )
+    match str::from_utf8(principal) {
+        Ok(principal) => validate(
+            alloc,
+            certificate,
+            unix_timestamp,
+            Some(principal),
+            authorities,
+            is_verified,
+        ),
+        Err(_) => TEXT,
+    }
 }
 
-/// The fields of a certificate that a policy asks for: `sshkey_calls::certificate_fields`.
+/// The fields of the certificate that all the bytes spell.
+///
+/// Returns 0 if they spell one, and else from 10 to 29 their fault. Does not allocate.
 #[unsafe(no_mangle)]
 pub extern "C" fn raf_certificate_fields(certificate: &[u8], answer: &mut CertificateFields) -> u32
     ensures { GivesFields certificate.now result answer.old answer.new }
 {
-    certificate_fields(certificate, answer)
+    match CertificateRef::from_bytes(certificate) {
+        Ok(read) => {
+            *answer = fields_of(&read);
+            DONE
+        }
+        Err(error) => error_status(error),
+    }
 }

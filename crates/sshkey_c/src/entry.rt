@@ -9,21 +9,48 @@ ghost use Rattle.sshkey_entry_calls.specs.Entries.{FindsEntry, NeedsAuthorizedEn
 ghost use Rattle.sshkey_entry_calls.specs.Lines.{FindsLine};
 ghost use Rattle.sshkey_entry_calls.specs.Options.{FindsKeyOption};
 
+use sshkey_calls::number::{DONE, END, TEXT};
 use sshkey_calls::part::Part;
-use sshkey_entry_calls::{
-    EntryParts, OptionParts, authorized_entry, known_host, next_line, next_line_option,
-};
+use sshkey_entries::bytes::{is_filled, skip_blanks, split_line};
+use sshkey_entry_calls::entries::{authorized_entry_of, known_host_of};
+use sshkey_entry_calls::lines::rest_from;
+use sshkey_entry_calls::options::{option_end, skip_commas, tell_option};
+use sshkey_entry_calls::{EntryParts, OptionParts};
 use std::alloc::Global;
+use std::str;
 
-/// The next line that may be an entry: `sshkey_entry_calls::next_line`.
+/// The first line from that place on that is neither empty nor a comment, without the spaces and
+/// tabs at its front and without its end. The next one is found from the end of that part on.
+///
+/// Returns 0 if there is one, and else 3. Nothing is asked of the bytes. Does not allocate; takes
+/// time for the bytes that it passes.
 #[unsafe(no_mangle)]
 pub extern "C" fn raf_next_line(text: &[u8], place: usize, answer: &mut Part) -> u32
     ensures { FindsLine text.now place result answer.old answer.new }
 {
-    next_line(text, place, answer)
+    let mut left = rest_from(text, place);
+    'lines: while !left.is_empty() {
+        let (line, after) = split_line(left);
+        let filled = skip_blanks(line);
+        if is_filled(filled) {
+            *answer = Part {
+                start: text.len() - left.len() + (line.len() - filled.len()),
+                length: filled.len(),
+            };
+            return DONE;
+        }
+        left = after;
+    }
+    END
 }
 
-/// The entry of a line of authorized_keys: `sshkey_entry_calls::authorized_entry`.
+/// The entry of a line of authorized_keys as sshd(8) reads it ("AUTHORIZED_KEYS FILE FORMAT"): its
+/// options, its key and its comment.
+///
+/// Returns 0 with the entry in the room, 2 where the room is too short for it, 1 if memory ran out,
+/// 4 for a line that is not UTF-8, and from 10 to 29 a fault of a line that is no entry. With 2 the
+/// answer says how much room is needed, and the room is as it was; with every other number but 0
+/// answer and room are. Memory is taken only where a field of the line needs some, or for an entry.
 #[unsafe(no_mangle)]
 pub extern "C" fn raf_authorized_entry(
     alloc: Global,
@@ -39,10 +66,20 @@ pub extern "C" fn raf_authorized_entry(
         → (answer.new ≡ answer.old) × (room.new ≡ room.old) }
     ensures memory { result ≡ 1 → NeedsAuthorizedEntry line.now }
 {
-    authorized_entry(alloc, line, room, answer)
+    match str::from_utf8(line) {
+        Ok(text) => authorized_entry_of(alloc, text, room, answer),
+        Err(_) => TEXT,
+    }
 }
 
-/// The option at a place: `sshkey_entry_calls::next_line_option`.
+/// The option of an entry of authorized_keys that stands at that place, after commas (sshd(8),
+/// "AUTHORIZED_KEYS FILE FORMAT"). The next one is found from `next` on; begin at 0.
+///
+/// Returns 0 with the option in the room, 2 where the room is too short for it, 3 exactly where
+/// nothing but commas is left, 1 if memory ran out, 15 where no option stands there, and 4 where
+/// the bytes up to the next comma outside quotes are not UTF-8. With 2 the answer says how much
+/// room is needed, and the room is as it was; with every other number but 0 answer and room are.
+/// What follows the option is not read: where a fault is in it, a later call refuses.
 #[unsafe(no_mangle)]
 pub extern "C" fn raf_next_line_option(
     alloc: Global,
@@ -53,10 +90,22 @@ pub extern "C" fn raf_next_line_option(
 ) -> u32
     ensures { FindsKeyOption options.now place result answer.old answer.new room.old room.new }
 {
-    next_line_option(alloc, options, place, room, answer)
+    let left = skip_commas(rest_from(options, place));
+    if left.is_empty() {
+        return END;
+    }
+    let end = option_end(left);
+    let next = options.len() - (left.len() - end);
+    match str::from_utf8(&left[..end]) {
+        Ok(text) => tell_option(alloc, text, next, room, answer),
+        Err(_) => TEXT,
+    }
 }
 
-/// The entry of a line of known_hosts: `sshkey_entry_calls::known_host`.
+/// The entry of a line of known_hosts as OpenSSH reads it (sshd(8), "SSH_KNOWN_HOSTS FILE FORMAT"):
+/// its marker, its hosts, its key and its comment. Patterns of hosts are joined by commas.
+///
+/// Returns what `raf_authorized_entry` does. Memory is taken only where the line has hosts.
 #[unsafe(no_mangle)]
 pub extern "C" fn raf_known_host(
     alloc: Global,
@@ -72,5 +121,8 @@ pub extern "C" fn raf_known_host(
         → (answer.new ≡ answer.old) × (room.new ≡ room.old) }
     ensures memory { result ≡ 1 → hosts.NeedsHostLine line.now }
 {
-    known_host(alloc, line, room, answer)
+    match str::from_utf8(line) {
+        Ok(text) => known_host_of(alloc, text, room, answer),
+        Err(_) => TEXT,
+    }
 }

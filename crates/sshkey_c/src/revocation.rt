@@ -12,21 +12,37 @@ ghost use Rattle.sshkey_calls.specs.Revocations.{IsWhetherCertificateRevoked, Is
 ghost use Rattle.sshkey_entry_calls.specs.RevocationFiles.{NeedsFiles};
 ghost use Rattle.sshkey_entry_calls.specs.Revocations.{TellsRevokedCertificate, TellsRevokedKey};
 
-use sshkey_calls::{check_unrevoked_certificate_by_krl, check_unrevoked_key_by_krl};
-use sshkey_entry_calls::{check_unrevoked_certificate, check_unrevoked_key};
+use sshkey_calls::number::{DONE, MEMORY, REVOKED, UNREADABLE_REVOCATIONS, error_status};
+use sshkey_calls::revocation::{is_certificate_revoked, is_key_revoked};
+use sshkey_entry_calls::RevocationFiles;
+use sshkey_entry_calls::revocations::{certificate_status, key_status};
 use std::alloc::Global;
 
-/// Whether none of the files revokes a key: `sshkey_entry_calls::check_unrevoked_key`.
+/// Whether none of the revocation files (`RevocationFiles`) revokes the key that all its bytes
+/// spell.
+///
+/// Returns 0 if none does, 56 if one does, 58 if a file cannot be read or there is none, which
+/// revokes everything, from 10 to 29 the fault of bytes that are no key, and 1 if memory ran out.
+/// So 0 alone says that the key is not revoked. Of one list, memory is taken only for an RSA key
+/// under another name than `ssh-rsa`.
 #[unsafe(no_mangle)]
 pub extern "C" fn raf_check_unrevoked_key(alloc: Global, revoked: &[&[u8]], key: &[u8]) -> u32
     ensures answer { TellsRevokedKey revoked.now key.now result }
     ensures memory { result ≡ 1 → NeedsFiles revoked.now ⊎ IsRenamedKey key.now }
 {
-    check_unrevoked_key(alloc, revoked, key)
+    let Ok(files) = RevocationFiles::read(alloc, revoked) else {
+        return MEMORY;
+    };
+    if !files.are_read() {
+        return UNREADABLE_REVOCATIONS;
+    }
+    key_status(alloc, &files, key)
 }
 
-/// Whether none of the files revokes a certificate:
-/// `sshkey_entry_calls::check_unrevoked_certificate`.
+/// Whether none of the revocation files revokes the certificate that all its bytes spell.
+///
+/// Returns what `raf_check_unrevoked_key` does, with the fault of bytes that are no certificate. Of
+/// one list, memory is taken only for bytes that are one.
 #[unsafe(no_mangle)]
 pub extern "C" fn raf_check_unrevoked_certificate(
     alloc: Global,
@@ -37,10 +53,21 @@ pub extern "C" fn raf_check_unrevoked_certificate(
     ensures memory { result ≡ 1 → NeedsFiles revoked.now
         ⊎ SpellsSome SpellsCertificate certificate.now }
 {
-    check_unrevoked_certificate(alloc, revoked, certificate)
+    let Ok(files) = RevocationFiles::read(alloc, revoked) else {
+        return MEMORY;
+    };
+    if !files.are_read() {
+        return UNREADABLE_REVOCATIONS;
+    }
+    certificate_status(alloc, &files, certificate)
 }
 
-/// Whether a list does not revoke a key: `sshkey_calls::check_unrevoked_key_by_krl`.
+/// Whether the key revocation list that all the bytes spell (PROTOCOL.krl) has neither the key that
+/// all its bytes spell nor a digest of it.
+///
+/// Returns 0 if it has not, 56 if it has, from 10 to 29 the fault of bytes that are no list, or
+/// else of bytes that are no key, and 1 if memory ran out. So 0 alone says that the key is not
+/// revoked. Memory is taken only for an RSA key under another name than `ssh-rsa`.
 #[unsafe(no_mangle)]
 pub extern "C" fn raf_check_unrevoked_key_by_krl(alloc: Global, krl: &[u8], key: &[u8]) -> u32
     ensures exactly { TellsRevoked (IsWhetherKeyRevoked krl.now key.now) result }
@@ -50,11 +77,19 @@ pub extern "C" fn raf_check_unrevoked_key_by_krl(alloc: Global, krl: &[u8], key:
         → whole key_data_at key.now ≡ Err fault → result ≡ fault_number fault }
     ensures memory { result ≡ 1 → SpellsSome SpellsKrl krl.now × IsRenamedKey key.now }
 {
-    check_unrevoked_key_by_krl(alloc, krl, key)
+    match is_key_revoked(alloc, krl, key) {
+        Ok(true) => REVOKED,
+        Ok(false) => DONE,
+        Err(error) => error_status(error),
+    }
 }
 
-/// Whether a list does not revoke a certificate:
-/// `sshkey_calls::check_unrevoked_certificate_by_krl`.
+/// Whether the key revocation list that all the bytes spell (PROTOCOL.krl) leaves the certificate
+/// that all its bytes spell unrevoked. It revokes one by its key, by the key that signed it, or by
+/// its serial number or its key id among the certificates of that key or of every key.
+///
+/// Returns what `raf_check_unrevoked_key_by_krl` does, with the fault of bytes that are no
+/// certificate. Memory is taken only where both are spelled.
 #[unsafe(no_mangle)]
 pub extern "C" fn raf_check_unrevoked_certificate_by_krl(
     alloc: Global,
@@ -69,5 +104,9 @@ pub extern "C" fn raf_check_unrevoked_certificate_by_krl(
     ensures memory { result ≡ 1 → SpellsSome SpellsKrl krl.now
         × SpellsSome SpellsCertificate certificate.now }
 {
-    check_unrevoked_certificate_by_krl(alloc, krl, certificate)
+    match is_certificate_revoked(alloc, krl, certificate) {
+        Ok(true) => REVOKED,
+        Ok(false) => DONE,
+        Err(error) => error_status(error),
+    }
 }

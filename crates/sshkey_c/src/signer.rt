@@ -10,11 +10,27 @@ ghost use Rattle.sshkey_calls.specs.Validations.{authorities_of};
 ghost use Rattle.sshkey_entry_calls.specs.Signers.{TellsSigner};
 ghost use Rattle.sshkey_entry_calls.specs.SshSignatures.{TellsByKeys};
 
-use sshkey_calls::Sha256Digest;
-use sshkey_entry_calls::{check_signer, check_sshsig};
+use sshkey_calls::laws::one_outcome;
+use sshkey_calls::number::{TEXT, error_status};
+use sshkey_calls::{GivenAnswer, Sha256Digest};
+use sshkey_entry_calls::signers::signer_status;
+use sshkey_entry_calls::sshsig::sshsig_status;
+use sshkey_sshsig::SshSig;
 use std::alloc::Global;
+use std::str;
 
-/// Whether an SSH signature counts as an identity's: `sshkey_entry_calls::check_signer`.
+/// Whether the SSH signature that all the bytes spell counts as the identity's in that namespace,
+/// by a text of allowed signers, at that time, in seconds since 1970 (`allowed_signers::verify`). 1
+/// says that its question (`raf_sshsig_question`) was answered yes, and every other number that it
+/// was not. `revoked` are revocation files (`RevocationFiles`).
+///
+/// Returns 0 if it does, 1 if memory ran out, 4 where the identity or the namespace is not UTF-8,
+/// from 10 to 29 the fault of bytes that are no SSH signature, and else what is wrong first: 103
+/// for an identity of no bytes, 55 where no line lets its key sign, 58 where a revocation file
+/// cannot be read or there is none, which revokes each key, 56 for a key that is revoked, and 30
+/// where it was not verified, is in another namespace or has reserved bytes. So 30, before anything
+/// is verified, says that its key may sign. Memory is taken only for a part of the signature that
+/// is whole.
 #[unsafe(no_mangle)]
 pub extern "C" fn raf_check_signer(
     alloc: Global,
@@ -35,19 +51,34 @@ pub extern "C" fn raf_check_signer(
     ensures text { (IsUtf8 identity.now → IsUtf8 namespace.now → ⊥) → result ≡ 4 }
     ensures memory { result ≡ 1 → NeedsMemory signature.now }
 {
-    check_signer(
-        alloc,
-        signers,
-        identity,
-        namespace,
-        signature,
-        unix_timestamp,
-        revoked,
-        is_verified,
-    )
+    let (Ok(identity), Ok(namespace)) = (str::from_utf8(identity), str::from_utf8(namespace)) else {
+        return TEXT;
+    };
+    let said = GivenAnswer::of(is_verified);
+    match SshSig::from_bytes(alloc, signature) {
+        Ok(_) => signer_status(
+            alloc,
+            signers,
+            identity,
+            namespace,
+            signature,
+            unix_timestamp,
+            revoked,
+            &said,
+        ),
+        Err(error) => error_status(error),
+    }
 }
 
-/// Whether an SSH signature is by one of some keys: `sshkey_entry_calls::check_sshsig`.
+/// Whether the SSH signature that all the bytes spell counts in that namespace, where the keys with
+/// these SHA-256 fingerprints may sign. 1 says that its question (`raf_sshsig_question`)
+/// was answered yes, and every other number that it was not.
+///
+/// Returns 0 if it does, 1 if memory ran out, from 10 to 29 the fault of bytes that are no SSH
+/// signature, and else what is wrong first: 55 for another key, and 30 where it was not verified,
+/// is in another namespace, has reserved bytes or raises no question. So 30, before anything is
+/// verified, says that its key may sign. Memory is taken only for a part of the signature that is
+/// whole.
 #[unsafe(no_mangle)]
 pub extern "C" fn raf_check_sshsig(
     alloc: Global,
@@ -62,5 +93,15 @@ pub extern "C" fn raf_check_sshsig(
         → result ≢ 1 → result ≡ fault_number fault }
     ensures memory { result ≡ 1 → NeedsMemory signature.now }
 {
-    check_sshsig(alloc, signature, namespace, signers, is_verified)
+    one_outcome();
+    match SshSig::from_bytes(alloc, signature) {
+        Ok(read) => sshsig_status(
+            alloc,
+            &read,
+            namespace,
+            signers,
+            GivenAnswer::of(is_verified),
+        ),
+        Err(error) => error_status(error),
+    }
 }

@@ -5,7 +5,7 @@ use Rattle.sshkey_model.specs.Keys.{normal_key}
 use Rattle.sshkey_model.specs.Parts.{flat}
 use Rattle.sshkey_model.specs.Verification as model
 use Rattle.sshkey_cert.specs.Questions.{certificate_question}
-use Rattle.sshkey_padding.specs.Padding.{padded_blob}
+use Rattle.openssh_limits.specs.Padding.{padded_blob}
 use Rattle.sshkey_calls.specs.Numbers.{algorithm_number}
 use Rattle.sshkey_calls.specs.Outcomes.{TellsOf}
 use Rattle.sshkey_calls.specs.Rooms.{GivesValue, IsPlaced}

@@ -4,37 +4,19 @@ ghost use Rattle.std.specs.Prelude.{◌≡◌, IfOk};
 ghost use Rattle.sshkey_cert_ref.specs.CertificateRef.{certificate_of};
 ghost use Rattle.sshkey_model.specs.Keys.{normal_key};
 ghost use Rattle.sshkey_model.specs.Parts.{flat};
-ghost use Rattle.sshkey_calls.specs.NormalForms.{WritesCertifiedKey};
 ghost use Rattle.sshkey_calls.specs.Writing.{WritesContent};
 
-use crate::number::{MEMORY, error_status};
+use crate::number::MEMORY;
 use crate::write::write_bytes;
 use sshkey_base::{Result, encode_vec};
 use sshkey_cert_ref::CertificateRef;
 use std::alloc::Global;
 
-/// Writes the blob of the key that the certificate certifies, as its public key's line has it: a
-/// certificate has the key's parts, and not its name.
+/// Writes the blob of the key that a certificate certifies to the front of the room, and its
+/// length.
 ///
-/// Returns 0, 2 where the room is shorter, 1 if memory ran out, and else from 10 to 29 the fault of
-/// bytes that are no certificate. A room as long as the certificate is long enough.
-pub fn certificate_key(
-    alloc: Global,
-    certificate: &[u8],
-    room: &mut [u8],
-    length: &mut usize,
-) -> u32
-    ensures { WritesCertifiedKey certificate.now
-        result length.old length.new room.old room.new }
-{
-    match CertificateRef::from_bytes(certificate) {
-        Ok(read) => write_key(alloc, &read, room, length),
-        Err(error) => error_status(error),
-    }
-}
-
-/// The same of a certificate that was read.
-fn write_key(
+/// Returns 0, 2 where the room is shorter, and 1 if memory ran out.
+pub fn write_key(
     alloc: Global,
     certificate: &CertificateRef<'_>,
     room: &mut [u8],

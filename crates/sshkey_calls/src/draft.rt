@@ -1,18 +1,14 @@
 //! Certificates that are to be signed.
 
 ghost use Rattle.std.specs.Prelude.{◌≡◌, ◌≢◌};
-ghost use Rattle.sshkey_base.specs.Acceptance.{SpellsSome};
-ghost use Rattle.sshkey_model.specs.Keys.{SpellsKey};
 ghost use Rattle.sshkey_model.specs.Certificates.{normal_to_be_signed};
 ghost use Rattle.sshkey_model.specs.Parts.{Fits, flat};
-ghost use Rattle.sshkey_cert_fields.specs.ToBeSignedValues.{to_be_signed_of};
-ghost use Rattle.sshkey_calls.specs.Drafts.{IsToBeSigned, TellsWrong, draft_fault};
+ghost use Rattle.sshkey_cert_values.specs.ToBeSignedValues.{to_be_signed_of};
 ghost use Rattle.sshkey_calls.specs.Writing.{WritesContent};
 
-use crate::draft_fields::fields_of;
 use crate::number::error_status;
 use crate::write::write_bytes;
-use sshkey_cert_fields::CertificateFields;
+use sshkey_cert_values::CertificateFields;
 use std::alloc::Global;
 
 /// What a certificate is to say.
@@ -46,38 +42,12 @@ pub struct CertificateDraft<'a> {
     pub all_principals: u32,
 }
 
-/// Writes the bytes that are to be signed of the certificate that the draft tells, which the string
-/// of the signature makes a certificate of: `certificate_make`.
+/// Writes the bytes that are to be signed of these fields to the front of the room, and their
+/// length.
 ///
-/// Returns 0, 2 where the room is shorter, 1 if memory ran out, and else what is wrong, numbers
-/// first: 15 for a type that is neither 1 nor 2, 19 for a time above 2^63 - 1, 46 for a window that
-/// is empty, 45 where no principals are listed and `all_principals` is not 1, or some are and it
-/// is. Then, in this order: from 10 to 29 the fault of the key, 12 for one under a private-use
-/// name, the fault of the authority's, 11 for a key id that is not UTF-8, and the fault of the
-/// principals, of the critical options and of the extensions, or 13 where they do not fit a string;
-/// last 13 for a nonce or a key id that does not. Memory is taken only where the numbers are right
-/// and a key is spelled that is to be certified. With any number but 0 the room stays as it was,
-/// and so does the length, but with 2.
-pub fn certificate_to_be_signed(
-    alloc: Global,
-    draft: &CertificateDraft<'_>,
-    room: &mut [u8],
-    length: &mut usize,
-) -> u32
-    ensures written { WritesContent (IsToBeSigned draft.now)
-        result length.old length.new room.old room.new }
-    ensures numbers { draft_fault draft.now ≢ 0 → result ≡ draft_fault draft.now }
-    ensures fault { TellsWrong draft.now result }
-    ensures memory { result ≡ 1 → SpellsSome SpellsKey draft.now.key.now }
-{
-    match fields_of(alloc, draft) {
-        Ok(fields) => write_fields(alloc, &fields, room, length),
-        Err(number) => number,
-    }
-}
-
-/// Writes the bytes that are to be signed of these fields.
-fn write_fields(
+/// Returns 0, 2 where the room is shorter, 1 if memory ran out, and 13 where a field does not fit a
+/// string.
+pub fn write_fields(
     alloc: Global,
     fields: &CertificateFields,
     room: &mut [u8],

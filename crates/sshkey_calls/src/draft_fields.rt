@@ -10,7 +10,7 @@ ghost use Rattle.sshkey_model.specs.Reading.{whole};
 ghost use Rattle.sshkey_model.specs.Texts.{IsText, string, texts_at, SpellsTexts};
 ghost use Rattle.sshkey_cert_values.specs.OptionMaps.{options_of};
 ghost use Rattle.sshkey_model.specs.Options.{SpellsOptions, options_value_at};
-ghost use Rattle.sshkey_cert_fields.specs.ToBeSignedValues.{to_be_signed_of};
+ghost use Rattle.sshkey_cert_values.specs.ToBeSignedValues.{to_be_signed_of};
 ghost use Rattle.sshkey_calls.specs.Drafts.{FindsOr, FindsPart, FitsString, IsCertifiable, TellsFields, TellsNumbers, certifiable_number, draft_fault, first_number, list_number, number_of, parts_fault, string_number, text_number};
 
 use crate::draft::CertificateDraft;
@@ -18,19 +18,15 @@ use crate::number::{
     CHARACTER_ENCODING, EMPTY_WINDOW, FORMAT, LABEL, MEMORY, PRINCIPALS, TIME, error_status,
 };
 use sshkey_base::{Bytes, Error, Text, decode_whole, encode_vec};
-use sshkey_cert_fields::CertificateFields;
-use sshkey_cert_values::{CertType, EndTime, OptionsMap, UnixTime};
+use sshkey_cert_values::{CertType, CertificateFields, EndTime, OptionsMap, UnixTime};
 use sshkey_keys::KeyData;
 use sshkey_keys_ref::KeyDataRef;
 use std::alloc::Global;
 use std::convert::TryFrom;
 use std::str;
 
-/// The fields that the draft tells.
-pub(crate) fn fields_of(
-    alloc: Global,
-    draft: &CertificateDraft<'_>,
-) -> Result<CertificateFields, u32>
+/// The fields that the draft tells, or the number of what is wrong with it first.
+pub fn fields_of(alloc: Global, draft: &CertificateDraft<'_>) -> Result<CertificateFields, u32>
     ensures fields { FindsOr (TellsFields draft.now) to_be_signed_of
         (first_number (draft_fault draft.now ∷ parts_fault draft.now ∷ []))
         (SpellsSome SpellsKey draft.now.key.now) result }

@@ -4,9 +4,8 @@ ghost use Rattle.std.specs.Prelude.{◌≡◌, IsTrue};
 ghost use Rattle.sshkey_cert_ref.specs.CertificateRef.{certificate_of};
 ghost use Rattle.sshkey_model.specs.Certificates.{type_number};
 ghost use Rattle.sshkey_cert_values.specs.CertTypes.{type_of};
-ghost use Rattle.sshkey_calls.specs.Fields.{AreFieldsOf, GivesFields, IsNumberOf};
+ghost use Rattle.sshkey_calls.specs.Fields.{AreFieldsOf, IsNumberOf};
 
-use crate::number::{DONE, error_status};
 use sshkey_cert_ref::CertificateRef;
 use sshkey_cert_values::CertType;
 
@@ -28,23 +27,8 @@ pub struct CertificateFields {
     pub has_critical_options: u32,
 }
 
-/// The fields of the certificate that all the bytes spell.
-///
-/// Returns 0 if they spell one, and else from 10 to 29 their fault. Does not allocate.
-pub fn certificate_fields(certificate: &[u8], answer: &mut CertificateFields) -> u32
-    ensures { GivesFields certificate.now result answer.old answer.new }
-{
-    match CertificateRef::from_bytes(certificate) {
-        Ok(read) => {
-            *answer = fields_of(&read);
-            DONE
-        }
-        Err(error) => error_status(error),
-    }
-}
-
 /// The fields of a certificate that was read.
-fn fields_of(read: &CertificateRef<'_>) -> CertificateFields
+pub fn fields_of(read: &CertificateRef<'_>) -> CertificateFields
     ensures { AreFieldsOf (certificate_of read.now) result }
 {
     CertificateFields {

@@ -1,14 +1,13 @@
 //! Lines of key files and of certificate files.
 
-ghost use Rattle.std.specs.Prelude.{◌≡◌, ◌≢◌, ◌⊎◌, ◌<◌, ◌++◌, IfOk, List, ℕ};
-ghost use Rattle.std.specs.Str.{IsUtf8};
+ghost use Rattle.std.specs.Prelude.{◌≡◌, ◌⊎◌, ◌<◌, ◌++◌, IfOk, List, ℕ};
 ghost use Rattle.base64.specs.GeneralPurpose.{IsBytes};
 ghost use Rattle.sshkey_model.specs.Keys.{SpellsKey};
 ghost use Rattle.sshkey_model.specs.Lines.{IsCut, IsLine, IsNoLine, IsWithout, after_space, key_name, space};
 ghost use Rattle.sshkey_calls.specs.KeyLines.{ArePlaced, HoldsContent, NeedsLine, NumbersKeyFault, ReadsContent, TellsLineFault, content_of, fault_of_either, line_bytes};
 ghost use Rattle.sshkey_calls.specs.Rooms.{IsLaidOut};
 
-use crate::number::{CHARACTER_ENCODING, LABEL, MEMORY, error_status};
+use crate::number::{LABEL, MEMORY, error_status};
 use crate::part::{self, Part, add};
 use base64::decoded_len_estimate;
 use base64::engine::general_purpose::STANDARD;
@@ -16,7 +15,6 @@ use sshkey_base::{Error, Result};
 use sshkey_cert::Certificate;
 use sshkey_keys::KeyData;
 use std::alloc::Global;
-use std::str;
 
 /// What a line of a key file or of a certificate file holds. The parts are parts of the room that
 /// was given.
@@ -38,33 +36,12 @@ const KEY: u32 = 1;
 /// The line holds a certificate.
 const CERTIFICATE: u32 = 2;
 
-/// The key or the certificate of a line, and its comment, as `PublicKey::from_openssh` and
-/// `Certificate::from_openssh` read them: the name of its algorithm, the bytes in padded Base64 and
-/// the comment, with a space between, and white space at the end.
+/// Answers with the key or the certificate of a line, and its comment, where there is room for
+/// them.
 ///
-/// Returns 0 with blob and comment in the room, 2 where the room is too short for them, 1 if memory
-/// ran out, and else from 10 to 29 the fault of a line of neither: 10 for what is not canonical
-/// Base64, 13 for a word that is missing, 16 for another first word than the name. It is the fault
-/// as the line of a certificate, or, where that is 12, as the line of a key. With 2 the
-/// answer says how much room is needed, and the room is as it was. Memory is taken only where the
-/// bytes of the second word need some, or for the line of a key or of a certificate.
-///
-/// A line end within the line is part of the comment.
-pub fn read_line(alloc: Global, line: &[u8], room: &mut [u8], answer: &mut Line) -> u32
-    ensures reads { ReadsContent (HoldsContent line.now) result answer.old answer.new room.old
-        room.new }
-    ensures fault { IsUtf8 line.now → TellsLineFault line.now result }
-    ensures text { (IsUtf8 line.now → ⊥) → result ≡ 11 }
-    ensures memory { result ≡ 1 → NeedsLine line.now }
-{
-    match str::from_utf8(line) {
-        Ok(text) => read_text(alloc, text, room, answer),
-        Err(_) => CHARACTER_ENCODING,
-    }
-}
-
-/// The same of a text.
-fn read_text(alloc: Global, text: &str, room: &mut [u8], answer: &mut Line) -> u32
+/// Returns 0, 2 where the room is shorter, 1 if memory ran out, and from 10 to 29 the fault of a
+/// line of neither.
+pub fn read_text(alloc: Global, text: &str, room: &mut [u8], answer: &mut Line) -> u32
     ensures reads { ReadsContent (HoldsContent text.now) result answer.old answer.new room.old
         room.new }
     ensures fault { TellsLineFault text.now result }

@@ -2,9 +2,8 @@
 
 ghost use Rattle.std.specs.Prelude.{◌≡◌, ◌-◌};
 ghost use Rattle.sshkey_cert_ref.specs.CertificateRef.{certificate_bytes, certificate_of};
-ghost use Rattle.sshkey_calls.specs.Lists.{ArePartsOf, GivesParts};
+ghost use Rattle.sshkey_calls.specs.Lists.{ArePartsOf};
 
-use crate::number::{DONE, error_status};
 use crate::part::Part;
 use sshkey_cert_ref::CertificateRef;
 
@@ -24,25 +23,8 @@ pub struct CertificateParts {
     pub authority: Part,
 }
 
-/// Where the parts are of the certificate that all the bytes spell.
-///
-/// Returns 0 if they spell one, and else from 10 to 29 their fault. `next_string` goes over the
-/// principals, and `next_certificate_option` over the critical options and over the extensions. Does not
-/// allocate, and copies nothing.
-pub fn certificate_parts(certificate: &[u8], answer: &mut CertificateParts) -> u32
-    ensures { GivesParts certificate.now result answer.old answer.new }
-{
-    match CertificateRef::from_bytes(certificate) {
-        Ok(read) => {
-            *answer = parts_of(&read);
-            DONE
-        }
-        Err(error) => error_status(error),
-    }
-}
-
 /// Where the parts of a certificate are, counted from its end.
-fn parts_of(read: &CertificateRef<'_>) -> CertificateParts
+pub fn parts_of(read: &CertificateRef<'_>) -> CertificateParts
     ensures { ArePartsOf (certificate_of read.now) (certificate_bytes read.now) result }
 {
     let end = read.as_bytes().len();

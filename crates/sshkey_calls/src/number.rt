@@ -26,7 +26,7 @@ pub const TEXT: u32 = 4;
 /// A word of a line is no Base64, or not the one of its bytes.
 pub(crate) const BASE64: u32 = 10;
 /// A text is not UTF-8, or has a character that no name has.
-pub(crate) const CHARACTER_ENCODING: u32 = 11;
+pub const CHARACTER_ENCODING: u32 = 11;
 /// A name is not allowed there.
 pub const LABEL: u32 = 12;
 /// A length passes the bytes, or is not the one wanted.

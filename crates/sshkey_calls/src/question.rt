@@ -4,15 +4,15 @@ ghost use Rattle.std.specs.Prelude.{◌≡◌, IfOk, option_map};
 ghost use Rattle.sshkey_cert_ref.specs.CertificateRef.{certificate_of};
 ghost use Rattle.sshkey_cert.specs.Questions.{certificate_question};
 ghost use Rattle.sshkey_keys.specs.Questions.{asks, question_of};
-ghost use Rattle.sshkey_calls.specs.Questions.{AddsQuestion, ArePlaced, TellsCertificateQuestion, GivesQuestion, TellsQuestion, question_bytes};
+ghost use Rattle.sshkey_calls.specs.Questions.{AddsQuestion, ArePlaced, GivesQuestion, TellsQuestion, question_bytes};
 ghost use Rattle.sshkey_calls.specs.Rooms.{IsLaidOut};
 
-use crate::number::{MEMORY, UNSUPPORTED, algorithm_number, error_status};
+use crate::number::{MEMORY, UNSUPPORTED, algorithm_number};
 use crate::part::{self, Part, add, add_encoded};
+use openssh_limits::padded_signature;
 use sshkey_base::{Encode, Result};
 use sshkey_cert_ref::CertificateRef;
 use sshkey_keys::{Question as Asked, SignatureQuestion};
-use sshkey_padding::padded_signature;
 use std::alloc::Global;
 
 /// What has to be verified: that the signature is one of the message under the key, by the
@@ -36,29 +36,8 @@ pub struct Question {
     pub algorithm: u32,
 }
 
-/// What has to be verified of the certificate that all the bytes spell.
-///
-/// Returns 0 with the question in the room, 2 where the room is too short for it, 1 if memory ran
-/// out, from 10 to 29 the fault of bytes that are no certificate, and 40 where the signature raises
-/// no question, since the key and its algorithm do not go together: such a certificate is not
-/// valid. With 2 the answer says how much room is needed, and the room is as it was.
-pub fn certificate_question(
-    alloc: Global,
-    certificate: &[u8],
-    room: &mut [u8],
-    answer: &mut Question,
-) -> u32
-    ensures { TellsCertificateQuestion certificate.now
-        result answer.old answer.new room.old room.new }
-{
-    match CertificateRef::from_bytes(certificate) {
-        Ok(read) => ask(alloc, &read, room, answer),
-        Err(error) => error_status(error),
-    }
-}
-
-/// The same of a certificate that was read.
-fn ask(
+/// Answers with the question that a certificate raises, as `answer_question` does.
+pub fn ask(
     alloc: Global,
     certificate: &CertificateRef<'_>,
     room: &mut [u8],

@@ -10,10 +10,8 @@ ghost use Rattle.sshkey_model.specs.Keys.{normal_key, key_data_at};
 ghost use Rattle.sshkey_model.specs.Parts.{flat};
 ghost use Rattle.sshkey_model.specs.Reading.{Fault, whole};
 ghost use Rattle.sshkey_calls.specs.NormalForms.{IsRenamedKey};
-ghost use Rattle.sshkey_calls.specs.Numbers.{fault_number};
-ghost use Rattle.sshkey_calls.specs.Revocations.{IsWhetherCertificateRevoked, IsWhetherKeyRevoked, TellsRevoked};
+ghost use Rattle.sshkey_calls.specs.Revocations.{IsWhetherCertificateRevoked, IsWhetherKeyRevoked};
 
-use crate::number::{DONE, REVOKED, error_status};
 use sshkey_base::{Error, Result, encode_vec};
 use sshkey_cert_ref::CertificateRef;
 use sshkey_keys::KeyData;
@@ -21,30 +19,9 @@ use sshkey_keys_ref::KeyDataRef;
 use sshkey_krl::KrlRef;
 use std::alloc::Global;
 
-/// Whether the key revocation list that all the bytes spell (PROTOCOL.krl) has neither the key that
-/// all its bytes spell nor a digest of it.
-///
-/// Returns 0 if it has not, 56 if it has, from 10 to 29 the fault of bytes that are no list, or
-/// else of bytes that are no key, and 1 if memory ran out. So 0 alone says that the key is not
-/// revoked. Memory is taken only for an RSA key under another name than `ssh-rsa`.
-pub fn check_unrevoked_key_by_krl(alloc: Global, krl: &[u8], key: &[u8]) -> u32
-    ensures exactly { TellsRevoked (IsWhetherKeyRevoked krl.now key.now) result }
-    ensures list { (fault : Fault) → whole krl_format.read krl.now ≡ Err fault
-        → result ≡ fault_number fault }
-    ensures key { SpellsSome SpellsKrl krl.now → (fault : Fault)
-        → whole key_data_at key.now ≡ Err fault → result ≡ fault_number fault }
-    ensures memory { result ≡ 1 → SpellsSome SpellsKrl krl.now × IsRenamedKey key.now }
-{
-    match is_key_revoked(alloc, krl, key) {
-        Ok(true) => REVOKED,
-        Ok(false) => DONE,
-        Err(error) => error_status(error),
-    }
-}
-
 /// Whether the list has the key. Fails with the first fault of the list, or else of the key, and
 /// when out of memory.
-fn is_key_revoked(alloc: Global, krl: &[u8], key: &[u8]) -> Result<bool>
+pub fn is_key_revoked(alloc: Global, krl: &[u8], key: &[u8]) -> Result<bool>
     ensures said { IfOk result (IsWhetherKeyRevoked krl.now key.now) }
     ensures list { (fault : Fault) → whole krl_format.read krl.now ≡ Err fault
         → IsErrAnd result (λ e. cause e ≡ Faulty fault) }
@@ -64,31 +41,9 @@ fn is_key_revoked(alloc: Global, krl: &[u8], key: &[u8]) -> Result<bool>
     Ok(list.revokes_key(&bytes))
 }
 
-/// Whether the key revocation list that all the bytes spell (PROTOCOL.krl) leaves the certificate
-/// that all its bytes spell unrevoked. It revokes one by its key, by the key that signed it, or by
-/// its serial number or its key id among the certificates of that key or of every key.
-///
-/// Returns what `check_unrevoked_key_by_krl` does, with the fault of bytes that are no certificate.
-/// Memory is taken only where both are spelled.
-pub fn check_unrevoked_certificate_by_krl(alloc: Global, krl: &[u8], certificate: &[u8]) -> u32
-    ensures exactly { TellsRevoked (IsWhetherCertificateRevoked krl.now certificate.now) result }
-    ensures list { (fault : Fault) → whole krl_format.read krl.now ≡ Err fault
-        → result ≡ fault_number fault }
-    ensures certificate { SpellsSome SpellsKrl krl.now → (fault : Fault)
-        → whole certificate_at certificate.now ≡ Err fault → result ≡ fault_number fault }
-    ensures memory { result ≡ 1 → SpellsSome SpellsKrl krl.now
-        × SpellsSome SpellsCertificate certificate.now }
-{
-    match is_certificate_revoked(alloc, krl, certificate) {
-        Ok(true) => REVOKED,
-        Ok(false) => DONE,
-        Err(error) => error_status(error),
-    }
-}
-
 /// Whether the list revokes the certificate. Fails with the first fault of the list, or else of the
 /// certificate, and when out of memory.
-fn is_certificate_revoked(alloc: Global, krl: &[u8], certificate: &[u8]) -> Result<bool>
+pub fn is_certificate_revoked(alloc: Global, krl: &[u8], certificate: &[u8]) -> Result<bool>
     ensures said { IfOk result (IsWhetherCertificateRevoked krl.now certificate.now) }
     ensures list { (fault : Fault) → whole krl_format.read krl.now ≡ Err fault
         → IsErrAnd result (λ e. cause e ≡ Faulty fault) }

@@ -6,41 +6,16 @@ ghost use Rattle.sshkey_model.specs.Keys.{Key, SpellsKey};
 ghost use Rattle.sshkey_model.specs.Signatures.{Signature, SpellsSignature};
 ghost use Rattle.sshkey_model.specs.Verification.{question};
 ghost use Rattle.sshkey_calls.specs.Questions.{TellsQuestion};
-ghost use Rattle.sshkey_calls.specs.Signatures.{TellsSignatureQuestion, TellsQuestionUnder};
+ghost use Rattle.sshkey_calls.specs.Signatures.{TellsQuestionUnder};
 
 use crate::number::{MEMORY, error_status};
 use crate::question::{Question, answer_question};
 use sshkey_keys_ref::{KeyDataRef, SignatureRef};
 use std::alloc::Global;
 
-/// What has to be verified of the signature that all its bytes spell (RFC 4253, section 6.6), as
-/// one of the message under the key that all its bytes spell: as an agent gives it, or a client at
-/// a login.
-///
-/// Returns 0 with the question in the room, 2 where the room is too short for it, 1 if memory ran
-/// out, from 10 to 29 the fault of bytes that are no key, or else of bytes that are no signature,
-/// and 40 where key and signature do not go together: such a signature is not valid. Where the
-/// question is answered, the signature is valid exactly if the verification says yes. Memory is
-/// taken only where both are spelled.
-pub fn signature_question(
-    alloc: Global,
-    key: &[u8],
-    message: &[u8],
-    signature: &[u8],
-    room: &mut [u8],
-    answer: &mut Question,
-) -> u32
-    ensures { TellsSignatureQuestion key.now message.now signature.now
-        result answer.old answer.new room.old room.new }
-{
-    match KeyDataRef::from_bytes(key) {
-        Ok(signer) => ask_under(alloc, &signer, message, signature, room, answer),
-        Err(error) => error_status(error),
-    }
-}
-
-/// The same of a key that was read.
-fn ask_under(
+/// Answers with the question that the signature raises, as one of the message under a key that was
+/// read. Else returns the fault of bytes that are no signature.
+pub fn ask_under(
     alloc: Global,
     signer: &KeyDataRef<'_>,
     message: &[u8],
@@ -57,7 +32,7 @@ fn ask_under(
     }
 }
 
-/// The same of a signature that was read too.
+/// The same of a signature that was read.
 fn ask(
     alloc: Global,
     signer: &KeyDataRef<'_>,

@@ -1,7 +1,7 @@
 //! Certificates that were signed.
 
 ghost use Rattle.std.specs.Prelude.{◌≡◌, ◌++◌, IfOk};
-ghost use Rattle.sshkey_calls.specs.Drafts.{FindsOr, FitsString, IsJoined, WritesCertificate, WritesSigned, string_number};
+ghost use Rattle.sshkey_calls.specs.Drafts.{FindsOr, FitsString, IsJoined, WritesCertificate, string_number};
 
 use crate::draft_fields::string_of;
 use crate::number::{MEMORY, error_status};
@@ -9,30 +9,8 @@ use crate::write::write_bytes;
 use sshkey_cert_ref::CertificateRef;
 use std::alloc::Global;
 
-/// Writes the certificate that the signature makes of the bytes that were signed: these, and the
-/// signature's blob in a string. Whether it is a signature of them `certificate_question` asks.
-///
-/// Returns 0, 2 where the room is shorter, 1 if memory ran out, and else from 10 to 29 the fault of
-/// bytes that are no certificate then, or 13 for a signature that does not fit a string. Memory is
-/// taken only where it fits one.
-pub fn certificate_make(
-    alloc: Global,
-    to_be_signed: &[u8],
-    signature: &[u8],
-    room: &mut [u8],
-    length: &mut usize,
-) -> u32
-    ensures { WritesSigned to_be_signed.now signature.now
-        result length.old length.new room.old room.new }
-{
-    match join(alloc, to_be_signed, signature) {
-        Ok(certificate) => write_certificate(&certificate, room, length),
-        Err(number) => number,
-    }
-}
-
 /// The bytes, and the signature in a string after them.
-fn join(alloc: Global, to_be_signed: &[u8], signature: &[u8]) -> Result<Vec<u8>, u32>
+pub fn join(alloc: Global, to_be_signed: &[u8], signature: &[u8]) -> Result<Vec<u8>, u32>
     ensures { FindsOr (IsJoined to_be_signed.now signature.now) (λ joined. joined.items)
         (string_number signature.now) (FitsString signature.now) result }
 {
@@ -53,7 +31,7 @@ fn append(alloc: Global, first: &[u8], second: &[u8]) -> sshkey_base::Result<Vec
 }
 
 /// Writes the bytes, if they spell a certificate.
-fn write_certificate(certificate: &[u8], room: &mut [u8], length: &mut usize) -> u32
+pub fn write_certificate(certificate: &[u8], room: &mut [u8], length: &mut usize) -> u32
     ensures { WritesCertificate certificate.now result length.old length.new room.old room.new }
 {
     match CertificateRef::from_bytes(certificate) {

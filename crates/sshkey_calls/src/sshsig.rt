@@ -8,7 +8,7 @@ ghost use Rattle.sshkey_model.specs.Verification.{question};
 ghost use Rattle.sshkey_sshsig.specs.SshSignatures.{ssh_signature_of};
 ghost use Rattle.sshkey_calls.specs.Fingerprints.{GivesDigestOf};
 ghost use Rattle.sshkey_calls.specs.Questions.{GivesQuestion};
-ghost use Rattle.sshkey_calls.specs.SshSignatures.{TellsDigestQuestion, TellsMessageQuestion, TellsSigner, TellsSshsigQuestion, TellsSshsigQuestionOfDigest, FindsSshSignature};
+ghost use Rattle.sshkey_calls.specs.SshSignatures.{TellsDigestQuestion, TellsMessageQuestion, TellsSigner, FindsSshSignature};
 
 use crate::digest::Sha256Digest;
 use crate::number::{DONE, LENGTH, MEMORY, OTHER_NAMESPACE, UNSUPPORTED, error_status};
@@ -18,59 +18,8 @@ use sshkey_keys::{KeyData, Question as Asked};
 use sshkey_sshsig::SshSig;
 use std::alloc::Global;
 
-/// What has to be verified of the SSH signature that all the bytes spell, which are the decoded
-/// content of the armour: as a signature of the message in that namespace. And by whom it is: the
-/// SHA-256 fingerprint of its key. Whether that key may sign there is the caller's to judge.
-///
-/// Returns 0 with the question in the room, 2 where the room is too short for it, 1 if memory ran
-/// out, from 10 to 29 the fault of bytes that are no SSH signature, 41 for a signature in another
-/// namespace, and 40 where the key and the signature's algorithm do not go together: such a
-/// signature is not valid. Where the question is answered, the signature is valid exactly if the
-/// verification says yes. Memory is taken only for a part that is whole.
-pub fn sshsig_question(
-    alloc: Global,
-    signature: &[u8],
-    namespace: &[u8],
-    message: &[u8],
-    room: &mut [u8],
-    answer: &mut Question,
-    signer: &mut Sha256Digest,
-) -> u32
-    ensures { TellsSshsigQuestion signature.now namespace.now message.now
-        result answer.old answer.new room.old room.new signer.old signer.new }
-{
-    match find_signature(alloc, signature, namespace) {
-        Ok(found) => ask(alloc, &found, message, room, answer, signer),
-        Err(number) => number,
-    }
-}
-
-/// The same with the digest of the message, by the hash that the signature names, in place of the
-/// message: who has digested a file piece by piece needs no more of it.
-///
-/// Returns what `sshsig_question` returns for each message that has this digest. Where the bytes
-/// spell an SSH signature in that namespace, returns 13 for a digest of another length than the
-/// hash's: 32 bytes for SHA-256 and 64 for SHA-512.
-pub fn sshsig_question_of_digest(
-    alloc: Global,
-    signature: &[u8],
-    namespace: &[u8],
-    digest: &[u8],
-    room: &mut [u8],
-    answer: &mut Question,
-    signer: &mut Sha256Digest,
-) -> u32
-    ensures { TellsSshsigQuestionOfDigest signature.now namespace.now digest.now
-        result answer.old answer.new room.old room.new signer.old signer.new }
-{
-    match find_signature(alloc, signature, namespace) {
-        Ok(found) => ask_of_digest(alloc, &found, digest, room, answer, signer),
-        Err(number) => number,
-    }
-}
-
 /// The SSH signature in that namespace that all the bytes spell, or the number to answer with.
-fn find_signature(alloc: Global, signature: &[u8], namespace: &[u8]) -> Result<SshSig, u32>
+pub fn find_signature(alloc: Global, signature: &[u8], namespace: &[u8]) -> Result<SshSig, u32>
     ensures { FindsSshSignature signature.now namespace.now result }
 {
     match SshSig::from_bytes(alloc, signature) {
@@ -91,8 +40,9 @@ fn is_in(signature: &SshSig, namespace: &[u8]) -> bool
     signature.namespace().as_bytes() == namespace
 }
 
-/// The same of the message and a signature that was read, and is in the namespace.
-fn ask(
+/// Answers with the question that an SSH signature raises, as one of the message, and with the
+/// fingerprint of its key.
+pub fn ask(
     alloc: Global,
     read: &SshSig,
     message: &[u8],
@@ -110,7 +60,7 @@ fn ask(
 }
 
 /// The same of the digest of the message. 13 where it has another length than the hash's.
-fn ask_of_digest(
+pub fn ask_of_digest(
     alloc: Global,
     read: &SshSig,
     digest: &[u8],

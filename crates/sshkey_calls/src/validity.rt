@@ -1,7 +1,6 @@
 //! Whether a certificate is valid, given what the caller's verification said.
 
 ghost use Rattle.std.specs.Prelude.{◌≡◌, ◌≢◌, ◌↔◌, Bool, Err, IsTrue, MatchOption, option_map};
-ghost use Rattle.std.specs.Str.{IsUtf8};
 ghost use Rattle.sshkey_base.specs.Acceptance.{SpellsSome};
 ghost use Rattle.sshkey_cert_ref.specs.CertificateRef.{certificate_of, choices_of};
 ghost use Rattle.sshkey_model.specs.Certificates.{certificate_at, SpellsCertificate};
@@ -11,95 +10,20 @@ ghost use Rattle.sshkey_model.specs.Reading.{Fault, whole};
 ghost use Rattle.sshkey_model.specs.Refusals.{first_refusal, is_signed};
 ghost use Rattle.sshkey_model.specs.Verification.{Question};
 ghost use Rattle.sshkey_calls.specs.Numbers.{fault_number, refusal_status};
-ghost use Rattle.sshkey_calls.specs.Validations.{FindsRefusalOr, HasRenamedAuthority, IsGoodCertificate, IsGoodCertificateFor, SaysWhether, TellsFirst, TellsFirstFor, TellsRefusal, Verified, authorities_of, first_refusal_of, is_yes_number};
+ghost use Rattle.sshkey_calls.specs.Validations.{FindsRefusalOr, HasRenamedAuthority, TellsRefusal, Verified, authorities_of, first_refusal_of, is_yes_number};
 
 use crate::digest::{Sha256Digest, contains_fingerprint};
 use crate::given_answer::GivenAnswer;
-use crate::number::{MEMORY, TEXT, error_status, refusal_status};
+use crate::number::{MEMORY, error_status, refusal_status};
 use sshkey_base::{HashAlg, Result};
 use sshkey_cert::{CertificateRefusal, refusal_of_authority_or_time, refusal_with_principal};
 use sshkey_cert_ref::CertificateRef;
 use std::alloc::Global;
-use std::str;
 
-/// Whether the bytes spell a certificate that is valid at that time, in seconds since 1970, for an
-/// authority with one of these SHA-256 fingerprints, where 1 says that its question was answered
-/// yes, and every other number that it was not.
-///
-/// Returns 0 if it is, 1 if memory ran out, from 10 to 29 the fault of bytes that are no
-/// certificate, and else what is wrong first: 30 for the signature, 31 for the authority, 32 for a
-/// time above 2^63 - 1, 33 for a time before `valid_after`, or not before `valid_before`. What a
-/// certificate is for, its critical options and whether it is revoked are not looked at. 1 is
-/// answered only for an RSA key under another name than `ssh-rsa`.
-pub fn check_certificate(
-    alloc: Global,
-    certificate: &[u8],
-    unix_timestamp: u64,
-    authorities: &[Sha256Digest],
-    is_verified: u32,
-) -> u32
-    ensures exactly { (accepts : Question → Bool) → Verified accepts certificate.now is_verified
-        → SaysWhether (IsGoodCertificate accepts (authorities_of authorities.now) unix_timestamp
-        certificate.now) result }
-    ensures first { (accepts : Question → Bool) → Verified accepts certificate.now is_verified
-        → TellsFirst accepts (authorities_of authorities.now) unix_timestamp certificate.now
-        result }
-    ensures fault { (fault : Fault) → whole certificate_at certificate.now ≡ Err fault
-        → result ≡ fault_number fault }
-    ensures memory { result ≡ 1 → HasRenamedAuthority certificate.now }
-{
-    validate(
-        alloc,
-        certificate,
-        unix_timestamp,
-        None,
-        authorities,
-        is_verified,
-    )
-}
-
-/// The same for a principal, which the certificate must allow: it lists the principal, or nobody.
-/// Returns what `check_certificate` does, and last 34 for a principal that is not allowed. 4,
-/// first of all, for a principal that is not UTF-8.
-///
-/// A certificate without principals allows everybody here (PROTOCOL.certkeys), while sshd(8)
-/// rejects it for a user.
-pub fn check_certificate_for(
-    alloc: Global,
-    certificate: &[u8],
-    unix_timestamp: u64,
-    principal: &[u8],
-    authorities: &[Sha256Digest],
-    is_verified: u32,
-) -> u32
-    ensures exactly { IsUtf8 principal.now → (accepts : Question → Bool)
-        → Verified accepts certificate.now is_verified
-        → SaysWhether (IsGoodCertificateFor accepts (authorities_of authorities.now) unix_timestamp
-        principal.now certificate.now) result }
-    ensures first { IsUtf8 principal.now → (accepts : Question → Bool)
-        → Verified accepts certificate.now is_verified
-        → TellsFirstFor accepts (authorities_of authorities.now) unix_timestamp principal.now
-        certificate.now result }
-    ensures fault { IsUtf8 principal.now → (fault : Fault)
-        → whole certificate_at certificate.now ≡ Err fault → result ≡ fault_number fault }
-    ensures text { (IsUtf8 principal.now → ⊥) → result ≡ 4 }
-    ensures memory { result ≡ 1 → HasRenamedAuthority certificate.now }
-{
-    match str::from_utf8(principal) {
-        Ok(principal) => validate(
-            alloc,
-            certificate,
-            unix_timestamp,
-            Some(principal),
-            authorities,
-            is_verified,
-        ),
-        Err(_) => TEXT,
-    }
-}
-
-/// The number of what is wrong first, with the principal too if there is one.
-fn validate(
+/// The number of what is wrong with a certificate first, with the principal too if there is one:
+/// from 10 to 29 the fault of bytes that are none, from 30 on what is wrong with one, 0 where it is
+/// valid, and 1 if memory ran out.
+pub fn validate(
     alloc: Global,
     certificate: &[u8],
     unix_timestamp: u64,

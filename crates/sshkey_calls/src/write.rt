@@ -9,7 +9,7 @@ use crate::part::write_to;
 /// Writes the content to the front of the room, and how many bytes it has.
 ///
 /// Returns 0, or 2 where the room is shorter and stays as it was.
-pub(crate) fn write_bytes(content: &[u8], room: &mut [u8], length: &mut usize) -> u32
+pub fn write_bytes(content: &[u8], room: &mut [u8], length: &mut usize) -> u32
     ensures written { WritesContent (λ s. s ≡ content.now) result length.old length.new room.old
         room.new }
     ensures memory { result ≢ 1 }

@@ -1,10 +1,10 @@
 //! Questions about where a client may come from.
 
 use crate::bytes::{NO_LINE, text};
-use sshkey_addresses::{
+use sshkey_base::{Error, Result};
+use sshkey_matching::{
     FromFault, from_allows, from_allows_at, is_source_list, may_come_from, source_address_allows,
 };
-use sshkey_base::{Error, Result};
 use std::alloc::Global;
 use std::net::IpAddr;
 

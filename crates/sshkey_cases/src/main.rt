@@ -2,6 +2,10 @@
 //! the words of `bytes`, and may have ` = ` with the answer that is wanted after it. Written is each
 //! question with its answer, but for those that are as wanted, and last how many answers were
 //! wanted and how many are. Of the file `stdin`, where all answers stand, that is all.
+//!
+//! # What is proved, tested and trusted
+//!
+//! Nothing is claimed: the checks ask it.
 #![tactic(auto)]
 
 mod addresses;

@@ -2,10 +2,10 @@
 
 use crate::bytes::{part, text};
 use crate::signatures::knower;
+use openssh_limits::Padding;
 use sshkey_base::{Error, Result};
 use sshkey_doubles::{AcceptAll, RefuseAll};
 use sshkey_keys::{Signature, SignatureQuestion};
-use sshkey_padding::Padding;
 use sshkey_userauth::{Requirements, UserauthRefusal, UserauthRequest};
 use std::alloc::Global;
 

@@ -17,8 +17,8 @@ use Rattle.sshkey_model.specs.Formats.{IsFormat}
 use Rattle.sshkey_terms.proofs.Lawful.{boxed_lawful, tested_lawful, then_lawful}
 use Rattle.sshkey_keys.proofs.Lawful.{signature_lawful}
 use Rattle.sshkey_public.specs.Blobs.{StandsInLines}
-use Rattle.sshkey_cert_fields.proofs.Lawful.{to_be_signed_lawful}
-use Rattle.sshkey_cert_fields.proofs.ToBeSignedReaders.{to_be_signed_is}
+use Rattle.sshkey_cert_values.proofs.ToBeSignedLawful.{to_be_signed_lawful}
+use Rattle.sshkey_cert_values.proofs.ToBeSignedReaders.{to_be_signed_is}
 use Rattle.sshkey_cert.specs.CertificateValues.{certificate_of}
 use Rattle.sshkey_cert.specs.declared.certificate.Certificate as code
 

@@ -8,3 +8,4 @@ pub mod OneLines
 pub mod KeysOfCertificates
 pub mod KeysOrCertificates
 pub mod CertificateReaders
+mod Shortest

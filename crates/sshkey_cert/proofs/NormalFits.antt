@@ -12,7 +12,7 @@ use Rattle.sshkey_model.proofs.NormalKeysFit.{normal_boxes}
 use Rattle.sshkey_base.proofs.Writing.{boxes_both, boxes_first, boxes_box, boxes_inside, boxes_length, length_both, length_box}
 use Rattle.sshkey_cert_values.proofs.WrittenOptions.{nothing_has}
 use Rattle.sshkey_cert.specs.Fitting.{boxes_fit, signed_fits}
-use Rattle.sshkey_cert_fields.proofs.ToBeSignedReaders.{to_be_signed_grammar}
+use Rattle.sshkey_cert_values.proofs.ToBeSignedReaders.{to_be_signed_grammar}
 
 -- ---- the test
 

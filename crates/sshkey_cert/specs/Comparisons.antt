@@ -4,7 +4,7 @@ use Rattle.std.specs.declared.cmp.Ordering.{Ordering}
 use Rattle.sshkey_model.specs.Certificates as model
 use Rattle.sshkey_keys.specs.Signatures.{signature_parts}
 use Rattle.sshkey_base.specs.Comparisons.{bytes_cmp, parts_cmp, first_of}
-use Rattle.sshkey_cert_fields.specs.Comparisons.{HasKeys, field_orders}
+use Rattle.sshkey_cert_values.specs.ToBeSignedComparisons.{HasKeys, field_orders}
 use Rattle.sshkey_cert.specs.declared.certificate.Certificate.{Certificate}
 use Rattle.sshkey_cert.specs.CertificateValues.{certificate_of, comment_of}
 

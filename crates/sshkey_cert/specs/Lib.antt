@@ -6,3 +6,4 @@ pub mod Signing
 pub mod Lines
 pub mod Comparisons
 pub mod KeysOrCertificates
+pub mod Faults

@@ -1,14 +1,15 @@
 //! Laws of certificates: each stands for all values, and makes no call.
 
-ghost use Rattle.std.specs.Prelude.{◌≡◌, ◌++◌, ℕ, List};
-ghost use Rattle.sshkey_model.specs.Certificates.{Certificate as TheCertificate, SpellsCertificate};
+ghost use Rattle.std.specs.Prelude.{◌≡◌, ◌≤◌, ◌++◌, ℕ, List, length};
+ghost use Rattle.sshkey_model.specs.Certificates.{Certificate as TheCertificate, normal_certificate, SpellsCertificate};
 ghost use Rattle.sshkey_model.specs.Keys.{Key, SpellsKey};
+ghost use Rattle.sshkey_model.specs.Parts.{flat};
 ghost use Rattle.sshkey_base.specs.Comparisons.{EqualMeanSame, IsEqualityAmong, IsEqualityOf};
 ghost use Rattle.sshkey_cert.specs.Comparisons.{IsOfKeys, IsOrderOfCertificates, content_of};
 ghost use Rattle.sshkey_cert.specs.Validity.{refusal_of};
 
 use crate::certificate::{Certificate, CertificateRefusal};
-use sshkey_cert_fields::laws::compared_signed_fields;
+use sshkey_cert_values::laws::compared_signed_fields;
 use sshkey_keys::laws::compared_signatures;
 pub use sshkey_model::laws::{apart, certificate_fields, prefix_certificate};
 
@@ -40,4 +41,13 @@ pub fn compared_certificates()
 /// Two refusals of a certificate are equal exactly if they are the same.
 pub fn equal_certificate_refusals()
     ensures { IsEqualityOf refusal_of ⟦<CertificateRefusal as PartialEq>⟧.eq }
+{}
+
+/// No spelling of a certificate is shorter than its normal form, and no other is as short: what is
+/// as long as the normal form is the normal form.
+pub fn shortest_certificate()
+    ensures shortest { (c : TheCertificate) (blob : List ℕ) → SpellsCertificate c blob
+        → length (flat (normal_certificate c)) ≤ length blob }
+    ensures only { (c : TheCertificate) (blob : List ℕ) → SpellsCertificate c blob
+        → length blob ≡ length (flat (normal_certificate c)) → blob ≡ flat (normal_certificate c) }
 {}

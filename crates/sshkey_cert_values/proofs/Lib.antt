@@ -8,3 +8,8 @@ pub mod OptionsAmong
 pub mod RisingNames
 pub mod OptionLists
 pub mod Lawful
+pub mod Names
+pub mod Copies
+pub mod ToBeSignedReaders
+pub mod ToBeSignedLawful
+mod Refusals

@@ -3,3 +3,6 @@ pub mod CertTypes
 pub mod OptionMaps
 pub mod Comparisons
 pub mod GatheredPairs
+pub mod ToBeSignedValues
+pub mod ToBeSignedParts
+pub mod ToBeSignedComparisons

@@ -1,17 +1,23 @@
-//! Laws of options and times: each stands for all values, and makes no call.
+//! Laws of what a certificate holds: each stands for all values, and makes no call.
 
 ghost use Rattle.std.specs.Prelude.{◌≡◌, ◌++◌, ℕ, List};
 ghost use Rattle.sshkey_model.specs.Options.{CertificateOption, SpellsOptions};
-ghost use Rattle.sshkey_base.specs.Comparisons.{IsEqualityOf, IsOrderOf};
+ghost use Rattle.sshkey_base.specs.Comparisons.{EqualMeanSame, IsEqualityAmong, IsEqualityOf, IsOrderOf};
+ghost use Rattle.sshkey_model.specs.Certificates.{SpellsToBeSigned, to_be_signed_format};
+ghost use Rattle.sshkey_model.specs.Grammar.{IsGrammar};
 ghost use Rattle.sshkey_cert_values.specs.CertTypes.{type_of};
 ghost use Rattle.sshkey_cert_values.specs.Comparisons.{IsOrderOfOptions, time_key, end_key, type_key};
 ghost use Rattle.sshkey_cert_values.specs.OptionMaps.{options_of};
 ghost use Rattle.sshkey_cert_values.specs.Times.{end_of, time_of};
+ghost use Rattle.sshkey_cert_values.specs.ToBeSignedComparisons.{HasKeys, IsOrderOfFields};
+ghost use Rattle.sshkey_cert_values.specs.ToBeSignedValues.{to_be_signed_of};
 
 use crate::cert_type::CertType;
+use crate::certificate_fields::CertificateFields;
 use crate::end_time::EndTime;
 use crate::options_map::OptionsMap;
 use crate::unix_time::UnixTime;
+use sshkey_keys::laws::compared_keys;
 pub use sshkey_model::laws::prefix_options;
 
 /// No options begin others: what follows them does not matter, and they are those of one map.
@@ -43,4 +49,25 @@ pub fn compared_types()
 pub fn compared_options()
     ensures equal { IsEqualityOf options_of ⟦<OptionsMap as PartialEq>⟧.eq }
     ensures ordered { IsOrderOfOptions ⟦<OptionsMap as Ord>⟧.cmp }
+{}
+
+/// What is signed: two that are equal mean the same, and with well-formed keys two are equal exactly
+/// if they do. They are ordered by the first field that differs, from the nonce on; options as their lists.
+pub fn compared_signed_fields()
+    ensures equal { IsEqualityAmong HasKeys to_be_signed_of ⟦<CertificateFields as PartialEq>⟧.eq }
+    ensures same { EqualMeanSame to_be_signed_of ⟦<CertificateFields as PartialEq>⟧.eq }
+    ensures ordered { IsOrderOfFields ⟦<CertificateFields as Ord>⟧.cmp }
+{
+    compared_keys();
+    compared_types();
+    compared_times();
+    compared_ends();
+    compared_options();
+}
+
+/// It is read exactly where PROTOCOL.certkeys spells it, with each way to spell an empty value and
+/// the authority's name.
+#[tactic(auto, using(crate::proofs::ToBeSignedReaders::to_be_signed_grammar))]
+pub fn exact_to_be_signed()
+    ensures { IsGrammar SpellsToBeSigned to_be_signed_format.read }
 {}

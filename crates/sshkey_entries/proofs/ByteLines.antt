@@ -8,28 +8,28 @@ use Rattle.std.proofs.lemmas.List.Splits.{slice_split_none, slice_split_at, leng
 use Rattle.std.proofs.lemmas.List.Sums.{position_or_len_is}
 use Rattle.std.specs.List.{All, slice_split, position_or_len}
 use Rattle.std.specs.Str.Lines.{lines, lines_of_parts, strip_carriage_return}
-use Rattle.memchr.specs.Find.{IsFirstByte, is_byte}
+use Rattle.memchr.specs.Find.{IsFirstByte}
 use Rattle.sshkey_entries.specs.Fields.{without_blanks, is_filled, filled_lines}
 use Rattle.sshkey_entries.specs.OptionEnds.{is_blank}
 use Rattle.sshkey_entries.proofs.Fronts as fronts
 use Rattle.sshkey_entries.proofs.TextLines.{more_lines}
-use Rattle.sshkey_patterns.proofs.PatternLists.{none_before, none_there, parts_at}
+use Rattle.sshkey_matching.proofs.PatternLists.{none_before, none_there, parts_at}
 use Rattle.sshkey_entries.specs.ByteLines.{CutsLine, IsLineEnd, is_line_end}
 
--- ---- where a line ends
+-- ---- where a test passes first
 
 not_true : (b : Bool) → (b ≡ true → ⊥) → b ≡ false
 not_true true other = absurd (other refl)
 not_true false _ = refl
 
 -- a first place is where a test passes first
-pub first_place : (text : List ℕ) (found : Option ℕ) → IsFirstByte (is_byte 10) text found → found ≡ position is_line_end text
-first_place text None nowhere =
-    let none : position_or_len is_line_end text ≡ length text = position_or_len_is is_line_end text (length text) 0 (omega arith) (λ k l. not_true _ (nowhere k (omega arith) l)) (λ l. absurd (omega (arith, l))) in
+pub first_place : (is : ℕ → Bool) (text : List ℕ) (found : Option ℕ) → IsFirstByte is text found → found ≡ position is text
+first_place is text None nowhere =
+    let none : position_or_len is text ≡ length text = position_or_len_is is text (length text) 0 (omega arith) (λ k l. not_true _ (nowhere k (omega arith) l)) (λ l. absurd (omega (arith, l))) in
     sym (ap (λ (n : ℕ). cond (nat_lt n (length text)) (Some n) None) none ∙ ap (λ (b : Bool). cond b (Some (length text)) None) (le-ltb (length text) (length text) (omega arith)))
-first_place text (Some place) is =
-    let here : position_or_len is_line_end text ≡ place = position_or_len_is is_line_end text place 0 (omega (arith, is.0.high)) (λ k l. not_true _ (is.0.before k (omega arith) l)) (λ _. is.1) in
-    sym (ap (λ (n : ℕ). cond (nat_lt n (length text)) (Some n) None) here ∙ ap (λ (b : Bool). cond b (Some place) None) (lt-ltb place (length text) is.0.high))
+first_place is text (Some place) at =
+    let here : position_or_len is text ≡ place = position_or_len_is is text place 0 (omega (arith, at.0.high)) (λ k l. not_true _ (at.0.before k (omega arith) l)) (λ _. at.1) in
+    sym (ap (λ (n : ℕ). cond (nat_lt n (length text)) (Some n) None) here ∙ ap (λ (b : Bool). cond b (Some place) None) (lt-ltb place (length text) at.0.high))
 
 -- ---- blanks
 

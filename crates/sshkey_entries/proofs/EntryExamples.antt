@@ -1,8 +1,9 @@
 -- The worked examples of entries hold.
-use Rattle.std.proofs.Common.{◌≡◌, ◌≢◌, ℕ, ◌<◌, ◌≤◌, true, List, [], ◌∷◌, ◌++◌, length, drop, count_by, Option, None, Some, inl, inr, refl, sym, ap, subst, ◌∙◌, arith}
+use Rattle.std.proofs.Common.{◌≡◌, ◌≢◌, ℕ, ◌<◌, ◌≤◌, Bool, true, not, List, [], ◌∷◌, ◌++◌, length, drop, count_by, Option, None, Some, inl, inr, refl, sym, ap, subst, ◌∙◌, arith}
 use Rattle.std.specs.Prelude.{codes, slice_index}
 use Rattle.std.specs.Str.{trim_end, is_utf8, chars}
 use Rattle.std.specs.Char.{encode_utf8}
+use Rattle.std.proofs.lemmas.Bool.{not-true}
 use Rattle.base64.specs.Rfc4648.{encode_symbols}
 use Rattle.base64.specs.Decode.{groups_error, scan_steps}
 use Rattle.base64.specs.Engines.{standard}
@@ -21,8 +22,12 @@ use Rattle.sshkey_entries.specs.AuthorizedKeys.{IsAuthorizedKey, HasOptions, is_
 use Rattle.sshkey_entries.specs.ConfigOptions.{is_option_character}
 use Rattle.sshkey_entries.specs.Entries.{IsNoEntry}
 use Rattle.sshkey_entries.specs.EntryExamples.{Options, Marked, HashedHosts, authorized, host, hash, salt}
-use Rattle.sshkey_patterns.specs.Commas.{patterns}
+use Rattle.sshkey_matching.specs.Commas.{patterns}
 use Rattle.sshkey_entries.specs.KnownHosts.{Marker, CertAuthority, Revoked, Hosts, HashedName, Patterns, IsHosts, IsMarked, IsKnownHost, at_sign, bar}
+use Rattle.sshkey_entries.specs.Examples.{WordEnds}
+use Rattle.sshkey_entries.specs.Fields.{CutsWord, IsField}
+use Rattle.sshkey_entries.specs.OptionEnds.{is_blank}
+use Rattle.sshkey_entries.proofs.Fields.{same_cut}
 use Rattle.sshkey_entries.proofs.OneHost.{bar_not}
 
 -- ---- authorized_keys
@@ -129,4 +134,25 @@ hashed_hosts = (
   record { is = refl; salt_bytes = bytes_fit salt refl; hash_bytes = bytes_fit hash refl; hash_len = refl },
   no_short_hash,
   no_hosts,
+)
+
+-- ---- words
+
+abbrev is_no_blank : ℕ → Bool
+is_no_blank c = not (is_blank c)
+
+field_of : (text : List ℕ) → all_characters is_no_blank text ≡ true → IsField text
+field_of text e i l = not-true _ (each is_no_blank text e i l)
+
+pub word_ends : WordEnds
+word_ends = (
+  refl,
+  refl,
+  refl,
+  refl,
+  record { field = codes "AAAA\r"; is = refl; one_word = field_of (codes "AAAA\r") refl; ends = inr refl; word_is = refl },
+  λ rest cut.
+      let whole : CutsWord (codes "AAAA\rme") (codes "AAAA\rme") [] = record { field = codes "AAAA\rme"; is = refl; one_word = field_of (codes "AAAA\rme") refl; ends = inl refl; word_is = refl } in
+      let same = same_cut (codes "AAAA\rme") (codes "AAAA\rme") (codes "AAAA") [] rest whole cut in
+      omega (arith, ap length same.0),
 )

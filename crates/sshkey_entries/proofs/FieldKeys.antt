@@ -1,7 +1,6 @@
 -- What the fields of a line are read as.
 use Rattle.std.proofs.Common.{◌≡◌, ◌≢◌, ℕ, ◌<◌, List, [], ◌++◌, length, Bool, true, false, ◌==◌, eqb-true, sym, ap, subst, refl, ◌∙◌, arith, inl, inr}
 use Rattle.std.proofs.lemmas.Bool.{eqb-false}
-use Rattle.std.proofs.lemmas.List.{length-append}
 use Rattle.base64.specs.Engines.{standard}
 use Rattle.base64.specs.GeneralPurpose.{encode_of}
 use Rattle.sshkey_base.specs.declared.encoding.Error.TheVariants.{Length}
@@ -12,8 +11,8 @@ use Rattle.sshkey_model.specs.Lines.{key_name}
 use Rattle.sshkey_model.proofs.Base64Words.{one_blob, some_word}
 use Rattle.sshkey_model.proofs.Blobs.{key_blobs}
 use Rattle.sshkey_model.proofs.CombinedReaders.{bytes_fit}
-use Rattle.sshkey_entries.specs.Fields.{without_blanks, IsField, AreKeyFields, AreNoKeyFields}
-use Rattle.sshkey_entries.proofs.Fields.{same_field, base64_field}
+use Rattle.sshkey_entries.specs.Fields.{without_blanks, CutsWord, IsField, AreKeyFields, AreNoKeyFields}
+use Rattle.sshkey_entries.proofs.Fields.{same_cut, same_field}
 use Rattle.sshkey_entries.specs.Cuts.{CutsField}
 use Rattle.sshkey_public.specs.LineFaults.{HasFaultOfWord}
 use Rattle.sshkey_public.specs.LineNeeds.{NeedsWord}
@@ -26,13 +25,13 @@ no_length n b e t = eqb-true n 0 (sym e ∙ t)
 pub some_length : (n : ℕ) (b : Bool) → b ≡ (n == 0) → b ≡ false → 0 < n
 some_length n b e t = let other : n ≢ 0 = eqb-false n 0 (sym e ∙ t) in omega arith
 
-module _ (text name after skipped word rest : List ℕ) (first : CutsField text name after) (skips : skipped ≡ without_blanks after) (second : CutsField skipped word rest) where
+module _ (text name after skipped word rest : List ℕ) (first : CutsField text name after) (skips : skipped ≡ without_blanks after) (second : CutsWord skipped word rest) where
   -- no other name and word stand there
   pub same_parts : (k : Key) (comment : List ℕ) (f : AreKeyFields text k comment) → (name ≡ key_name k) × (word ≡ encode_of standard f.blob)
   same_parts k comment f =
       let names = same_field name (key_name k) after f.after_name first.one_word f.one_word first.ends f.name_ends (sym first.is ∙ f.is) in
-      let words = same_field word (encode_of standard f.blob) rest f.after_key second.one_word (base64_field f.blob) second.ends f.key_ends (sym second.is ∙ skips ∙ ap without_blanks names.1 ∙ f.word) in
-      (names.0, words.0)
+      let there = subst (λ (t : List ℕ). CutsWord t (encode_of standard f.blob) f.after_key) (ap without_blanks (sym names.1) ∙ sym skips) f.word in
+      (names.0, (same_cut skipped word (encode_of standard f.blob) rest f.after_key second there).0)
 
   pub no_word : length word ≡ 0 → AreNoKeyFields text
   no_word none = λ k comment f. omega (arith, none, ap length (same_parts k comment f).1, some_word f.blob (key_blobs.some k f.blob f.spelled))
@@ -55,45 +54,41 @@ module _ (text name after skipped word rest : List ℕ) (first : CutsField text 
     is = first.is ∙ ap (λ (n : List ℕ). n ++ after) named;
     one_word = subst IsField named first.one_word;
     name_ends = first.ends;
-    word = sym skips ∙ second.is ∙ ap (λ (v : List ℕ). v ++ rest) w.is;
+    word = subst (λ (t : List ℕ). CutsWord t (encode_of standard w.blob) rest) skips (subst (λ (v : List ℕ). CutsWord skipped v rest) w.is second);
     spelled = w.spelled;
-    key_ends = second.ends;
     comment_is = is;
   }
 
   pub fields_are : AreFields text name word rest
-  fields_are = record { after = after; first = first; second = subst (λ (t : List ℕ). CutsField t word rest) skips second }
+  fields_are = record { after = after; first = first; second = subst (λ (t : List ℕ). CutsWord t word rest) skips second }
 
-  same_word : (n w r : List ℕ) → AreFields text n w r → (name ≡ n) × (word ≡ w)
+  pub same_word : (n w r : List ℕ) → AreFields text n w r → (name ≡ n) × (word ≡ w)
   same_word n w r f =
       let names = same_field name n after f.after first.one_word f.first.one_word first.ends f.first.ends (sym first.is ∙ f.first.is) in
-      let words = same_field word w rest r second.one_word f.second.one_word second.ends f.second.ends (sym second.is ∙ skips ∙ ap without_blanks names.1 ∙ f.second.is) in
-      (names.0, words.0)
+      let there = subst (λ (t : List ℕ). CutsWord t w r) (ap without_blanks (sym names.1) ∙ sym skips) f.second in
+      (names.0, (same_cut skipped word w rest r second there).0)
 
   -- where there is a word, no fault of a missing one is owed
-  some_there : 0 < length word → (n r : List ℕ) → CutsField text n r → without_blanks r ≡ [] → ⊥
-  some_there some n r cut none =
-      let names = same_field name n after r first.one_word cut.one_word first.ends cut.ends (sym first.is ∙ cut.is) in
-      let nothing : [] ≡ word ++ rest = sym none ∙ ap without_blanks (sym names.1) ∙ sym skips ∙ second.is in
-      omega (arith, some, ap length nothing, length-append word rest)
+  some_there : 0 < length word → (n r : List ℕ) → AreFields text n [] r → ⊥
+  some_there some n r f = omega (arith, some, ap length (same_word n [] r f).1)
 
   pub missing : length word ≡ 0 → HasKeyFault text (Encoding Length)
   missing none = record {
-    no_word = λ n r cut nothing. refl;
+    no_word = λ n r f. refl;
     bad_word = λ n w r f some no. absurd (omega (arith, none, ap length (same_word n w r f).1, some));
     other_name = λ n w r k f is other. absurd (omega (arith, none, ap length ((same_word n w r f).1 ∙ is.is), some_word is.blob (key_blobs.some k is.blob is.spelled)));
   }
 
   pub odd_key : (e : Error) → 0 < length word → IsNoWord SpellsKey word → HasFaultOfWord key_format word e → HasKeyFault text e
   odd_key e some none fault = record {
-    no_word = λ n r cut nothing. absurd (some_there some n r cut nothing);
+    no_word = λ n r f. absurd (some_there some n r f);
     bad_word = λ n w r f also no. subst (λ (t : List ℕ). HasFaultOfWord key_format t e) (same_word n w r f).1 fault;
     other_name = λ n w r k f is other. absurd (none k (subst (λ (t : List ℕ). IsWordOf SpellsKey t k) (sym (same_word n w r f).1) is));
   }
 
   pub named_otherwise : 0 < length word → (k : Key) → IsWordOf SpellsKey word k → HasKeyFault text AlgorithmUnknown
   named_otherwise some k is = record {
-    no_word = λ n r cut nothing. absurd (some_there some n r cut nothing);
+    no_word = λ n r f. absurd (some_there some n r f);
     bad_word = λ n w r f also none. absurd (none k (subst (λ (t : List ℕ). IsWordOf SpellsKey t k) (same_word n w r f).1 is));
     other_name = λ n w r k f is other. refl;
   }

@@ -3,7 +3,7 @@ pub mod AnswerLists
 pub mod Fronts
 pub mod BlankPlaces
 pub mod FilledTexts
-pub use Rattle.sshkey_patterns.proofs.PatternLists
+pub use Rattle.sshkey_matching.proofs.PatternLists
 pub mod OneEntry
 pub mod OneHost
 pub mod OptionEnds

@@ -1,29 +1,26 @@
 -- No key begins with the name of another kind; and how such a name is read in a word.
-use Rattle.std.proofs.Common.{◌≡◌, ◌≢◌, ◌%◌, ℕ, suc, List, [], ◌∷◌, ◌++◌, length, slice_index, Bool, true, false, ◌&&◌, ◌==◌, Option, Some, None, is_none, eqb-true, inl, inr, refl, sym, ap, subst, ◌∙◌, append_assoc, append-nil, arith, tests}
+use Rattle.std.proofs.Common.{◌≡◌, ◌≢◌, ◌%◌, ℕ, suc, List, [], ◌∷◌, ◌++◌, length, Bool, true, false, ◌&&◌, ◌==◌, Option, Some, None, is_none, eqb-true, inl, inr, refl, sym, ap, subst, ◌∙◌, append_assoc, append-nil, arith, tests}
 use Rattle.std.specs.Int.{w32, to_be_bytes}
 use Rattle.std.specs.Prelude.{nat_le, nat_lt}
 use Rattle.std.proofs.lemmas.Bool.{and_parts}
-use Rattle.base64.specs.Engines.{standard}
-use Rattle.base64.specs.GeneralPurpose.{encode_of}
 use Rattle.sshkey_base.specs.Source.{Source, Advances, IsSound, announced_len}
 use Rattle.sshkey_base64.specs.Words64.{IsSourceOf}
 use Rattle.sshkey_base64.proofs.GoodBytes.{length_word}
 use Rattle.sshkey_model.specs.Keys.{Key, Head, Plain, Head256, Head512, headed, body, key_algorithm, SpellsKey}
-use Rattle.sshkey_model.specs.Lines.{key_name}
 use Rattle.sshkey_model.specs.Names.{Nistp256, Nistp384, Nistp521, Sha256, Sha512, Algorithm, Dsa, Ecdsa, Ed25519, Rsa, SkEcdsa, SkEd25519, Other, IsAlgorithm, algorithm, algorithm_name, algorithms, named, are_ascii, cut, is_split, is_own_name, is_other_name}
 use Rattle.sshkey_model.specs.Parts.{are_bytes, bytes, flat, Fits}
 use Rattle.sshkey_model.specs.Texts.{string}
 use Rattle.sshkey_model.proofs.Base64Words.{one_blob}
 use Rattle.sshkey_model.proofs.Blobs.{key_blobs}
 use Rattle.sshkey_model.proofs.CombinedReaders.{are_bytes-append, bytes_fit, fits_box, fits_bytes, fits_first, prefix, string_reads}
-use Rattle.sshkey_entries.specs.Cuts.{CutsField}
-use Rattle.sshkey_entries.specs.Fields.{without_blanks, IsField, AreKeyFields}
+use Rattle.sshkey_entries.specs.Fields.{without_blanks, AreKeyFields}
 use Rattle.sshkey_entries.specs.Entries.{IsNoEntry}
 use Rattle.sshkey_entries.specs.KnownHosts.{Marker, Hosts, IsHosts, at_sign}
 use Rattle.sshkey_entries.specs.OpenSshLines.{IsHostLine, IsOtherHostLine}
-use Rattle.sshkey_entries.specs.OptionEnds.{is_blank}
-use Rattle.sshkey_entries.specs.OtherKeys.{is_name_character, HasNameCharacters, IsOtherName, SpellsName, AreOtherKeyFields}
-use Rattle.sshkey_entries.proofs.Fields.{same_field, blanks_are, base64_field}
+use Rattle.sshkey_entries.specs.OtherKeys.{is_name_character, HasNameCharacters, IsOtherName, SpellsName, AreFieldsUnder, AreForeignKeyFields, AreOtherKeyFields}
+use Rattle.sshkey_entries.specs.KeyFields.{AreFields}
+use Rattle.sshkey_entries.proofs.FieldKeys.{same_parts, same_word}
+use Rattle.sshkey_entries.proofs.Fields.{same_field}
 use Rattle.sshkey_entries.proofs.OneHost.{one_hosts}
 use Rattle.sshkey_entries.proofs.OneOpenSshLine.{one_marked, same_front}
 
@@ -84,16 +81,6 @@ module _ (name word : List ℕ) (s : Source) (is : IsSourceOf word s) where
 
 -- ---- a name
 
-not_blank : (c : ℕ) (b : Bool) → is_blank c ≡ b → is_name_character c ≡ true → is_blank c ≡ false
-not_blank c false e is = e
-not_blank c true e is = absurd (elim (blanks_are c e) [
-  | inl s ↦ cc (sym is ∙ ap is_name_character s)
-  | inr t ↦ cc (sym is ∙ ap is_name_character t)
-])
-
-pub name_field : (name : List ℕ) → HasNameCharacters name → IsField name
-name_field name is i less = not_blank (slice_index name i) (is_blank (slice_index name i)) refl (is i less)
-
 after : (c : ℕ) (name : List ℕ) → HasNameCharacters (c ∷ name) → HasNameCharacters name
 after c name is i less = is (suc i) (omega (arith, less))
 
@@ -150,34 +137,25 @@ no_key_begins k name blob rest o s is =
 
 -- ---- fields
 
-module _ (text name after skipped word rest : List ℕ) (first : CutsField text name after) (skips : skipped ≡ without_blanks after) (second : CutsField skipped word rest) where
-  pub fields_read : IsOtherName name → SpellsName name word → AreOtherKeyFields text
-  fields_read other spelled = record {
-    name = name;
-    word = word;
-    after_name = after;
-    after_word = rest;
-    is = first.is;
-    name_ends = first.ends;
-    of_other = other;
-    word_is = sym skips ∙ second.is;
-    spelled = spelled;
-    word_ends = second.ends;
-  }
+module _ (text name word rest : List ℕ) (fields : AreFields text name word rest) (IsName : List ℕ → Type 0) where
+  pub read_under : IsName name → SpellsName name word → AreFieldsUnder IsName text
+  read_under named spelled = record { name = name; word = word; rest = rest; fields = fields; named = named; spelled = spelled }
 
-  pub fields_named : AreOtherKeyFields text → IsOtherName name × SpellsName name word
-  fields_named f =
-      let names = same_field name f.name after f.after_name first.one_word (name_field f.name f.of_other.characters) first.ends f.name_ends (sym first.is ∙ f.is) in
-      let words = same_field word f.word rest f.after_word second.one_word (subst IsField (sym f.spelled.is) (base64_field f.spelled.blob)) second.ends f.word_ends (sym second.is ∙ skips ∙ ap without_blanks names.1 ∙ f.word_is) in
-      (subst IsOtherName (sym names.0) f.of_other, subst (λ (w : List ℕ). SpellsName name w) (sym words.0) (subst (λ (n : List ℕ). SpellsName n f.word) (sym names.0) f.spelled))
+  pub named_under : AreFieldsUnder IsName text → IsName name × SpellsName name word
+  named_under f =
+      let same = same_word text name fields.after (without_blanks fields.after) word rest fields.first refl fields.second f.name f.word f.rest f.fields in
+      (subst IsName (sym same.0) f.named, subst (λ (w : List ℕ). SpellsName name w) (sym same.1) (subst (λ (n : List ℕ). SpellsName n f.word) (sym same.0) f.spelled))
 
 -- No text is the fields of a key and of one of another kind.
 pub apart : (text : List ℕ) (k : Key) (comment : List ℕ) → AreOtherKeyFields text → AreKeyFields text k comment → ⊥
 apart text k comment f g =
-    let names = same_field f.name (key_name k) f.after_name g.after_name (name_field f.name f.of_other.characters) g.one_word f.name_ends g.name_ends (sym f.is ∙ g.is) in
-    let words = same_field f.word (encode_of standard g.blob) f.after_word g.after_key (subst IsField (sym f.spelled.is) (base64_field f.spelled.blob)) (base64_field g.blob) f.word_ends g.key_ends (sym f.word_is ∙ ap without_blanks names.1 ∙ g.word) in
-    let blob = one_blob f.spelled.blob g.blob f.spelled.bytes (bytes_fit g.blob (key_blobs.bytes k g.blob g.spelled)) (sym f.spelled.is ∙ words.0) in
-    no_key_begins k f.name g.blob f.spelled.rest f.of_other g.spelled (sym blob ∙ f.spelled.begins)
+    let same = same_parts text f.name f.fields.after (without_blanks f.fields.after) f.word f.rest f.fields.first refl f.fields.second k comment g in
+    let blob = one_blob f.spelled.blob g.blob f.spelled.bytes (bytes_fit g.blob (key_blobs.bytes k g.blob g.spelled)) (sym f.spelled.is ∙ same.1) in
+    no_key_begins k f.name g.blob f.spelled.rest f.named g.spelled (sym blob ∙ f.spelled.begins)
+
+foreign_apart : (text : List ℕ) (k : Key) (comment : List ℕ) → AreForeignKeyFields text → AreKeyFields text k comment → ⊥
+foreign_apart text k comment (inl other) g = apart text k comment other g
+foreign_apart text k comment (inr former) g = former.1 k comment g
 
 -- ---- a line of known_hosts
 
@@ -185,7 +163,7 @@ pub other_line_none : (line : List ℕ) (m : Option Marker) (hosts : Hosts) → 
 other_line_none line m hosts f h r =
     let marks = one_marked (without_blanks line) m h.marker (f.hosts_part ++ f.after_hosts) (r.hosts_part ++ r.after_hosts) f.marked r.marked in
     let parts = same_field f.hosts_part r.hosts_part f.after_hosts r.after_hosts f.one_word r.one_word f.hosts_end r.hosts_end marks.1 in
-    apart (without_blanks r.after_hosts) h.key h.comment (subst (λ (t : List ℕ). AreOtherKeyFields (without_blanks t)) parts.1 f.fields) r.fields
+    foreign_apart (without_blanks r.after_hosts) h.key h.comment (subst (λ (t : List ℕ). AreForeignKeyFields (without_blanks t)) parts.1 f.fields) r.fields
 
 pub one_other_line : (line : List ℕ) (m n : Option Marker) (g h : Hosts) → IsOtherHostLine line m g → IsOtherHostLine line n h → (m ≡ n) × (g ≡ h)
 one_other_line line m n g h a b =

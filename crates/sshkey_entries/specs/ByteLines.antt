@@ -1,8 +1,7 @@
--- The first line of a text of any bytes, and the fields at its front.
+-- The first line of a text of any bytes.
 use Rattle.std.specs.Prelude.{◌≡◌, ◌⊎◌, ◌<◌, ◌==◌, ℕ, List, [], ◌∷◌, ◌++◌, length, Bool, Option, Some, None}
 use Rattle.std.specs.Str.{IsUtf8}
 use Rattle.std.specs.Str.Lines.{lines}
-use Rattle.sshkey_entries.specs.KeyFields.{AreFields}
 use denote.Ref.{Bor}
 
 abbrev pub is_line_end : ℕ → Bool
@@ -20,14 +19,6 @@ pub record CutsLine (text line after : List ℕ) : Type 0 where
   pub ends : IsLineEnd end after
   pub first : lines text ≡ line ∷ lines after
   pub any_after : 0 < length end → (x : List ℕ) → lines (line ++ (end ++ x)) ≡ line ∷ lines x
-
--- The line begins with two fields, which these bytes are, with what stands between them.
-pub record BeginsWithFields (line fields : List ℕ) : Type 0 where
-  pub name : List ℕ
-  pub word : List ℕ
-  pub rest : List ℕ
-  pub two : AreFields line name word rest
-  pub is : line ≡ fields ++ rest
 
 -- the bytes as a text, or none where they are no UTF-8
 abbrev pub IsTextOf : List ℕ → Option (Bor (List ℕ)) → Type 0

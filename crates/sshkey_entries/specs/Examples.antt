@@ -4,9 +4,11 @@ use Rattle.sshkey_model.specs.HexText.{hex}
 use Rattle.sshkey_model.specs.PrivateKeys.{rising}
 use Rattle.sshkey_entries.specs.ConfigOptions.{is_option_character}
 use Rattle.sshkey_entries.specs.Entries.{entries}
+use Rattle.sshkey_entries.specs.Fields.{CutsWord, is_white, without_white}
 use Rattle.sshkey_entries.specs.Items.{items, patterns}
 use Rattle.sshkey_entries.specs.KnownHosts.{hashed_text}
 use Rattle.sshkey_entries.specs.OptionEnds.{is_inside}
+use Rattle.sshkey_entries.specs.OtherKeys.{IsFormerName}
 
 abbrev line_end : List ℕ
 line_end = 10 ∷ []
@@ -58,3 +60,25 @@ abbrev pub Quoted : Type 0
 Quoted = (is_inside (codes "c=\"x ssh-rsa A y\" ssh-rsa B z") 4 ≡ true)
     × (is_inside (codes "c=\"x\" ssh-rsa B z") 5 ≡ false)
     × (is_inside (codes "c=\\\"x ssh-rsa B z") 5 ≡ false)
+
+-- White space that ends no field is passed over within Base64 (isspace(3)): a vertical tab, a form
+-- feed and a carriage return. What ends a field or a line is not, nor is another control character.
+abbrev pub WhiteSpace : Type 0
+WhiteSpace = (is_white 0x0b ≡ true) × (is_white 0x0c ≡ true) × (is_white 0x0d ≡ true)
+    × (is_white 0x08 ≡ false) × (is_white 0x09 ≡ false) × (is_white 0x0a ≡ false) × (is_white 0x0e ≡ false) × (is_white 0x20 ≡ false)
+
+-- At the end of a field it is not part of the word, however much stands there; within one it is.
+abbrev pub WordEnds : Type 0
+WordEnds = (without_white (codes "AA\rAA" ++ (0x0b ∷ 0x0c ∷ 0x0d ∷ 0x0d ∷ [])) ≡ codes "AA\rAA")
+    × (without_white (codes "AAAA") ≡ codes "AAAA")
+    × (without_white (codes "AAAA\n") ≡ codes "AAAA\n")
+    × (without_white (codes "\r") ≡ [])
+    × CutsWord (codes "AAAA\r\t me\r") (codes "AAAA") (codes "\t me\r")
+    × ((rest : List ℕ) → CutsWord (codes "AAAA\rme") (codes "AAAA") rest → ⊥)
+
+-- XMSS and its certificates. The name of WebAuthn is none: OpenSSH reads a security key under it.
+abbrev pub FormerNames : Type 0
+FormerNames = IsFormerName (codes "ssh-xmss@openssh.com")
+    × IsFormerName (codes "ssh-xmss-cert-v01@openssh.com")
+    × ¬ IsFormerName (codes "ssh-xmss")
+    × ¬ IsFormerName (codes "webauthn-sk-ecdsa-sha2-nistp256@openssh.com")

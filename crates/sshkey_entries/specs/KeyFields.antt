@@ -5,7 +5,7 @@ use Rattle.sshkey_base.specs.Causes.{cause, NoMemory}
 use Rattle.sshkey_base.specs.declared.encoding.Error.TheVariants.{Length}
 use Rattle.sshkey_base.specs.declared.error.Error.{Error}
 use Rattle.sshkey_base.specs.declared.error.Error.TheVariants.{AlgorithmUnknown, Encoding}
-use Rattle.sshkey_entries.specs.Fields.{without_blanks, AreKeyFields, AreNoKeyFields}
+use Rattle.sshkey_entries.specs.Fields.{without_blanks, CutsWord, AreKeyFields, AreNoKeyFields}
 use Rattle.sshkey_model.specs.Keys.{Key, SpellsKey, key_format}
 use Rattle.sshkey_model.specs.Lines.{key_name}
 use Rattle.sshkey_public.specs.LineFaults.{HasFaultOfWord}
@@ -30,16 +30,17 @@ abbrev pub ReadsKeyBytes : List ℕ → Result PublicKey Error → Type 0
 ReadsKeyBytes fields (Ok k) = (comment : List ℕ) × AreKeyFields fields (public_of k) comment × IsKept comment (comment_of k)
 ReadsKeyBytes fields (Err e) = cause e ≢ NoMemory → AreNoKeyFields fields
 
--- The text is a name, a word and what follows it, with blanks between.
+-- The text is a name, a word with white space that may stand behind it, and what follows, with blanks
+-- between.
 pub record AreFields (text name word rest : List ℕ) : Type 0 where
   pub after : List ℕ
   pub first : CutsField text name after
-  pub second : CutsField (without_blanks after) word rest
+  pub second : CutsWord (without_blanks after) word rest
 
 -- `Length` where the Base64 is missing, the fault of a word that spells no key, and
 -- `AlgorithmUnknown` where it spells a key of another name.
 pub record HasKeyFault (text : List ℕ) (e : Error) : Type 0 where
-  pub no_word : (name rest : List ℕ) → CutsField text name rest → without_blanks rest ≡ [] → e ≡ Encoding Length
+  pub no_word : (name rest : List ℕ) → AreFields text name [] rest → e ≡ Encoding Length
   pub bad_word : (name word rest : List ℕ) → AreFields text name word rest → 0 < length word → IsNoWord SpellsKey word → HasFaultOfWord key_format word e
   pub other_name : (name word rest : List ℕ) (k : Key) → AreFields text name word rest → IsWordOf SpellsKey word k → name ≢ key_name k → e ≡ AlgorithmUnknown
 

@@ -10,7 +10,7 @@ pub mod OpenSshLines
 pub mod OptionItems
 pub mod Readings
 pub mod Words
-pub use Rattle.sshkey_patterns.specs.Patterns
+pub use Rattle.sshkey_matching.specs.Patterns
 pub mod HostNames
 pub mod HostVerdicts
 pub mod Laws
@@ -20,7 +20,7 @@ pub mod EntryExamples
 pub mod Answers
 pub mod MadeTexts
 pub mod Cuts
-pub use Rattle.sshkey_patterns.specs.LetterCases
+pub use Rattle.sshkey_matching.specs.LetterCases
 pub mod KeyFields
 pub mod OtherKeys
 pub mod ByteLines

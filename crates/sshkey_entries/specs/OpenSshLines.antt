@@ -8,7 +8,7 @@ use Rattle.sshkey_entries.specs.Entries.{hash_sign}
 use Rattle.sshkey_entries.specs.Fields.{without_blanks, IsField, EndsField, AreKeyFields, AreNoKeyFields}
 use Rattle.sshkey_entries.specs.KnownHosts.{Marker, CertAuthority, Revoked, marker_text, at_sign, Hosts, IsHosts, KnownHost}
 use Rattle.sshkey_entries.specs.OptionEnds.{EndsOptions}
-use Rattle.sshkey_entries.specs.OtherKeys.{AreOtherKeyFields}
+use Rattle.sshkey_entries.specs.OtherKeys.{AreForeignKeyFields}
 
 -- ---- authorized_keys
 
@@ -66,4 +66,4 @@ pub record IsOtherHostLine (line : List ℕ) (marker : Option Marker) (hosts : H
   pub one_word : IsField hosts_part
   pub hosts_end : EndsField after_hosts
   pub are : IsHosts hosts_part hosts
-  pub fields : AreOtherKeyFields (without_blanks after_hosts)
+  pub fields : AreForeignKeyFields (without_blanks after_hosts)

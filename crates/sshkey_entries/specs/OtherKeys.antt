@@ -1,14 +1,18 @@
 -- A key's fields whose key is of a kind that is none here: a later kind of OpenSSH's, as
--- `ssh-mldsa44-ed25519`. Its name stands in front of its bytes too (RFC 4253, section 6.6).
-use Rattle.std.specs.Prelude.{◌≡◌, ◌⊎◌, ◌<◌, ◌≤◌, ℕ, List, ◌++◌, length, map, codes, EachIndex, slice_index, None, Bool, true, not, ◌&&◌, ◌==◌, nat_lt}
+-- `ssh-mldsa44-ed25519`, or a former one. Its name stands in front of its bytes too (RFC 4253,
+-- section 6.6).
+use Rattle.std.specs.Prelude.{◌≡◌, ◌⊎◌, ◌<◌, ◌≤◌, ℕ, List, ◌++◌, length, map, codes, EachIndex, slice_index, Option, None, Some, Bool, true, not, ◌&&◌, ◌==◌, nat_lt}
 use Rattle.std.specs.Char.{to_ascii_lowercase}
+use Rattle.std.specs.Str.{IsUtf8}
 use Rattle.base64.specs.Engines.{standard}
 use Rattle.base64.specs.GeneralPurpose.{encode_of, IsBytes}
 use Rattle.sshkey_model.specs.Names.{algorithm_name, algorithms, named}
 use Rattle.sshkey_model.specs.Parts.{flat}
 use Rattle.sshkey_model.specs.Texts.{string}
-use Rattle.sshkey_entries.specs.Fields.{without_blanks, EndsField}
+use Rattle.sshkey_entries.specs.Fields.{AreNoKeyFields}
+use Rattle.sshkey_entries.specs.KeyFields.{AreFields}
 use Rattle.sshkey_entries.specs.KnownHosts.{at_sign, comma}
+use denote.Ref.{Bor}
 
 -- printable ASCII without space, comma and at sign (RFC 4251, section 6)
 abbrev pub is_name_character : ℕ → Bool
@@ -40,15 +44,36 @@ pub record SpellsName (name word : List ℕ) : Type 0 where
   pub begins : blob ≡ flat (string name) ++ rest
   pub is : word ≡ encode_of standard blob
 
--- The text is such a name, bytes in Base64 that begin with it, and a comment.
-pub record AreOtherKeyFields (text : List ℕ) : Type 0 where
+-- The text is a name of those, bytes in Base64 that begin with it, and a comment, as of a key.
+pub record AreFieldsUnder (IsName : List ℕ → Type 0) (text : List ℕ) : Type 0 where
   pub name : List ℕ
   pub word : List ℕ
-  pub after_name : List ℕ
-  pub after_word : List ℕ
-  pub is : text ≡ name ++ after_name
-  pub name_ends : EndsField after_name
-  pub of_other : IsOtherName name
-  pub word_is : without_blanks after_name ≡ word ++ after_word
+  pub rest : List ℕ
+  pub fields : AreFields text name word rest
+  pub named : IsName name
   pub spelled : SpellsName name word
-  pub word_ends : EndsField after_word
+
+abbrev pub AreOtherKeyFields : List ℕ → Type 0
+AreOtherKeyFields = AreFieldsUnder IsOtherName
+
+-- ---- former kinds
+
+-- XMSS and its certificates, which OpenSSH had up to 10.0 (sshkey.c). Where it was built without them
+-- it passed over the name. No key of another kind was read under it.
+abbrev pub IsFormerName : List ℕ → Type 0
+IsFormerName name = (name ≡ codes "ssh-xmss@openssh.com") ⊎ (name ≡ codes "ssh-xmss-cert-v01@openssh.com")
+
+abbrev pub AreFormerKeyFields : List ℕ → Type 0
+AreFormerKeyFields = AreFieldsUnder IsFormerName
+
+-- The fields of a key whose kind is none here. Under a former name a key may be read as one of
+-- private use.
+abbrev pub AreForeignKeyFields : List ℕ → Type 0
+AreForeignKeyFields text = AreOtherKeyFields text ⊎ (AreFormerKeyFields text × AreNoKeyFields text)
+
+-- ---- how they are read
+
+-- The name and the word in the text; or one of them is no UTF-8.
+abbrev pub TellsFields : List ℕ → Option (Bor (List ℕ) × Bor (List ℕ)) → Type 0
+TellsFields text (Some x) = (rest : List ℕ) × AreFields text x.0.now x.1.now rest
+TellsFields text None = (name word rest : List ℕ) → AreFields text name word rest → IsUtf8 name → IsUtf8 word → ⊥

@@ -3,11 +3,11 @@
 
 ghost use Rattle.std.specs.Prelude.{◌≡◌, ◌<◌, length, position};
 ghost use Rattle.std.specs.Str.Lines.{strip_carriage_return};
-ghost use Rattle.sshkey_entries.specs.ByteLines.{BeginsWithFields, CutsLine, IsTextOf, is_line_end};
+ghost use Rattle.sshkey_entries.specs.ByteLines.{CutsLine, IsTextOf, is_line_end};
 ghost use Rattle.sshkey_entries.specs.Cuts.{CutsField};
-ghost use Rattle.sshkey_entries.specs.Fields.{is_filled, without_blanks};
+ghost use Rattle.sshkey_entries.specs.Fields.{CutsWord, is_filled, without_blanks};
 
-use crate::blanks::{first_blank, first_other};
+use crate::blanks::{first_blank, first_other, word_len};
 use memchr::memchr;
 use std::str;
 
@@ -48,6 +48,15 @@ pub fn split_blank(text: &[u8]) -> (&[u8], &[u8])
     }
 }
 
+/// The text up to its first space or tab, without the white space at the end of that, and what
+/// follows from the space or tab. Does not allocate.
+pub fn split_word(text: &[u8]) -> (&[u8], &[u8])
+    ensures { CutsWord text.now result.0.now result.1.now }
+{
+    let (field, rest) = split_blank(text);
+    (&field[..word_len(field)], rest)
+}
+
 /// Whether the line is neither empty nor a comment, which a `#` begins. Does not allocate.
 pub fn is_filled(line: &[u8]) -> bool
     ensures { result ≡ is_filled line.now }
@@ -67,15 +76,6 @@ pub fn split_line(text: &[u8]) -> (&[u8], &[u8])
         Some(end) => (without_return(&text[..end]), &text[end + 1..]),
         None => (text, &[]),
     }
-}
-
-/// The first two fields of a line, as they stand in it. Does not allocate.
-pub fn key_fields(line: &[u8]) -> &[u8]
-    ensures { BeginsWithFields line.now result.now }
-{
-    let (_, after_name) = split_blank(line);
-    let (_, rest) = split_blank(skip_blanks(after_name));
-    &line[..line.len() - rest.len()]
 }
 
 /// The bytes as a text, if they are UTF-8. Does not allocate.

@@ -2,7 +2,7 @@
 #![tactic(auto, unfolding(crate::specs::Computed::trim_end, crate::specs::Computed::chars, crate::specs::Computed::encode_utf8, crate::specs::Computed::encode_symbols, crate::specs::Entries::uncommented, crate::specs::Items::is_odd, crate::specs::Items::is_quoted, crate::specs::Items::items, crate::specs::Items::patterns, crate::specs::OptionEnds::is_inside))]
 
 ghost use Rattle.sshkey_entries.specs.EntryExamples.{HashedHosts, Marked, Options};
-ghost use Rattle.sshkey_entries.specs.Examples.{Lines, CommentCuts, Items, Patterns, Characters, HashedName, Quoted};
+ghost use Rattle.sshkey_entries.specs.Examples.{Lines, CommentCuts, FormerNames, Items, Patterns, Characters, HashedName, Quoted, WhiteSpace, WordEnds};
 
 /// Lines of a text.
 pub fn lines()
@@ -52,4 +52,19 @@ pub fn marked_lines()
 /// Hashed names, and the sizes of their hashes.
 pub fn hashed_hosts()
     ensures { HashedHosts }
+{}
+
+/// White space that ends no field.
+pub fn white_space()
+    ensures { WhiteSpace }
+{}
+
+/// Words with white space behind them.
+pub fn word_ends()
+    ensures { WordEnds }
+{}
+
+/// Names of former kinds of keys.
+pub fn former_names()
+    ensures { FormerNames }
 {}

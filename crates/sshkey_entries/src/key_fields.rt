@@ -7,7 +7,7 @@ ghost use Rattle.sshkey_model.specs.Lines.{key_name};
 ghost use Rattle.sshkey_base.specs.declared.error.Error.TheVariants as wide;
 ghost use Rattle.sshkey_entries.specs.KeyFields.{AsksKeyFields, HasKeyFault, IsKept, ReadsKeyBytes, ReadsKeyFields};
 
-use crate::blanks::{skip_blanks, split_blank};
+use crate::blanks::{skip_blanks, split_blank, split_word};
 use crate::bytes::{self, text_of};
 use sshkey_base::{Error, Result, encoding};
 use sshkey_keys::KeyData;
@@ -21,7 +21,8 @@ fn is_named(key: &KeyData, name: &str) -> bool
 }
 
 /// Reads a key's fields: the name of its algorithm, the key in padded Base64, and a comment, which
-/// is all that follows. Spaces or tabs stand between.
+/// is all that follows. Spaces or tabs stand between. Vertical tabs, form feeds and carriage returns
+/// right behind the Base64 are passed over, as OpenSSH does.
 ///
 /// Unless memory runs out, it fails exactly if the text is the fields of no key: `Length` where the
 /// Base64 is missing, the errors of `sshkey_public::read_word`, and `AlgorithmUnknown` where the
@@ -36,7 +37,7 @@ pub fn read_key_fields(alloc: Global, text: &str) -> Result<PublicKey>
     ensures asks { AsksKeyFields text.now result }
 {
     let (name, after_name) = split_blank(text);
-    let (word, after_key) = split_blank(skip_blanks(after_name));
+    let (word, after_key) = split_word(skip_blanks(after_name));
     if word.is_empty() {
         return Err(Error::Encoding(encoding::Error::Length));
     }
@@ -70,7 +71,7 @@ pub fn read_key_bytes(alloc: Global, fields: &[u8]) -> Result<PublicKey>
     ensures asks { AsksKeyFields fields.now result }
 {
     let (name, after_name) = bytes::split_blank(fields);
-    let (word, after_key) = bytes::split_blank(bytes::skip_blanks(after_name));
+    let (word, after_key) = bytes::split_word(bytes::skip_blanks(after_name));
     if word.is_empty() {
         return Err(Error::Encoding(encoding::Error::Length));
     }

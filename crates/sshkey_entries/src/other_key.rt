@@ -5,9 +5,9 @@ ghost use Rattle.sshkey_base.specs.Source.{Advances, IsSound};
 ghost use Rattle.sshkey_model.specs.Names.{algorithm_name, algorithms, named};
 ghost use Rattle.sshkey_model.specs.Parts.{are_bytes, flat};
 ghost use Rattle.sshkey_model.specs.Texts.{string};
-ghost use Rattle.sshkey_entries.specs.OtherKeys.{AreOtherKeyFields, HasNameCharacters, IsOtherName, IsShortName, SpellsName, is_name_character};
+ghost use Rattle.sshkey_entries.specs.OtherKeys.{AreFormerKeyFields, AreOtherKeyFields, HasNameCharacters, IsFormerName, IsOtherName, IsShortName, SpellsName, TellsFields, is_name_character};
 
-use crate::bytes::{skip_blanks, split_blank, text_of};
+use crate::bytes::{skip_blanks, split_blank, split_word, text_of};
 use sshkey_base::{Algorithm, Reader};
 use sshkey_base64::Base64Reader;
 
@@ -53,6 +53,13 @@ fn is_other_name(name: &str) -> bool
         && has_name_characters(name)
         && !is_fixed_name(name)
         && !is_short_name(name)
+}
+
+/// Whether it is the name of a kind of key, or of its certificates, that OpenSSH had up to 10.0.
+fn is_former_name(name: &str) -> bool
+    ensures { IsTrue result ↔ IsFormerName name.now }
+{
+    name == "ssh-xmss@openssh.com" || name == "ssh-xmss-cert-v01@openssh.com"
 }
 
 /// Takes as many bytes as it is given, and says whether they are these.
@@ -122,18 +129,42 @@ pub fn are_other_key_fields(text: &str) -> bool
     bytes_are_other_key_fields(text.as_bytes())
 }
 
+/// The name in front of a key's fields and the word after it, if both are text.
+fn name_and_word(fields: &[u8]) -> Option<(&str, &str)>
+    ensures { TellsFields fields.now result }
+{
+    let (name, after_name) = split_blank(fields);
+    let (word, _) = split_word(skip_blanks(after_name));
+    let Some(name) = text_of(name) else {
+        return None;
+    };
+    let Some(word) = text_of(word) else {
+        return None;
+    };
+    Some((name, word))
+}
+
 /// What `are_other_key_fields` says, of any bytes: of the comment nothing is asked. Does not
 /// allocate.
 pub fn bytes_are_other_key_fields(fields: &[u8]) -> bool
     ensures { IsTrue result ↔ AreOtherKeyFields fields.now }
 {
-    let (name, after_name) = split_blank(fields);
-    let (word, _) = split_blank(skip_blanks(after_name));
-    let Some(name) = text_of(name) else {
-        return false;
-    };
-    let Some(word) = text_of(word) else {
+    let Some((name, word)) = name_and_word(fields) else {
         return false;
     };
     is_other_name(name) && spells_name(word, name)
+}
+
+/// The same of a kind that OpenSSH had up to 10.0, XMSS, and of its certificates. Does not allocate.
+///
+/// Their names are those of a private use, so a key may be read here that begins with one: ask where
+/// none is read (`read_key_bytes`). No OpenSSH takes what stands under such a name for a key of
+/// another kind.
+pub fn bytes_are_former_key_fields(fields: &[u8]) -> bool
+    ensures { IsTrue result ↔ AreFormerKeyFields fields.now }
+{
+    let Some((name, word)) = name_and_word(fields) else {
+        return false;
+    };
+    is_former_name(name) && spells_name(word, name)
 }

@@ -17,24 +17,6 @@ use Rattle.sshkey_revoked_keys.specs.RevokedKeys.{AsksText, ReadsKrl, ReadsRevok
 use Rattle.sshkey_revoked_keys.specs.declared.revoked_keys.RevokedKeys.{RevokedKeys}
 use Rattle.sshkey_entry_calls.specs.RevocationFiles.{IsReadOf, NeedsFile, are_read, revoked_status}
 
--- a list is refused for its fault alone
-no_list : (found : Result Krl Fault) (file : List ℕ) (e : Error) → ReadsKrl found file (Err e) → cause e ≢ NoMemory
-no_list (Ok k) file e reads memory = absurd reads
-no_list (Err fault) file e reads memory = let both : Faulty fault ≡ NoMemory = sym reads ∙ memory in cc both
-
-module _ (file : List ℕ) where
-  -- memory is asked for where a text needs it
-  pub needs_file : (e : Error) → (begins_krl file ≡ true → ReadsKrl (whole krl_format.read file) file (Err e)) → (begins_krl file ≡ false → AsksText file (Err e)) → cause e ≡ NoMemory → NeedsFile file
-  needs_file e list text memory = go (begins_krl file) refl
-    where
-      go : (b : Bool) → begins_krl file ≡ b → NeedsFile file
-      go true is = absurd (no_list (whole krl_format.read file) file e (list is) memory)
-      go false is = (is, text is memory)
-
-  -- what was read, if memory was enough
-  pub read_of : (found : Result RevokedKeys Error) → (begins_krl file ≡ true → ReadsKrl (whole krl_format.read file) file found) → (begins_krl file ≡ false → ReadsRevokedKeys file found) → IfErr found (λ e. cause e ≢ NoMemory) → IsReadOf file found
-  read_of found list text some = record { list = list; text = text; some_memory = some }
-
 -- ---- several files
 
 module _ {R : Type 0} (Q : Bor (List ℕ) → R → Type 0) where

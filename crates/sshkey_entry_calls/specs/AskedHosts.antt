@@ -1,7 +1,7 @@
 -- What is answered where nothing can be asked about a host.
 use Rattle.std.specs.Prelude.{ℕ}
-use Rattle.sshkey_addresses.specs.declared.host.HostFault.{HostFault}
-use Rattle.sshkey_addresses.specs.declared.host.HostFault.TheVariants.{Address, Empty, Memory, Port}
+use Rattle.sshkey_matching.specs.declared.host.HostFault.{HostFault}
+use Rattle.sshkey_matching.specs.declared.host.HostFault.TheVariants.{Address, Empty, Memory, Port}
 
 abbrev pub host_fault_status : HostFault → ℕ
 host_fault_status Port = 100

@@ -1,16 +1,15 @@
 -- What is told of a line of a file of authorities, keys that may sign certificates (sshd_config(5),
 -- "TrustedUserCAKeys").
 use Rattle.std.specs.List.{list_any, slice_split}
-use Rattle.std.specs.Prelude.{◌≡◌, ◌≢◌, ◌⊎◌, ℕ, List, Bool, IsTrue, not, false, ◌&&◌, ◌==◌, bytes_eq, length}
+use Rattle.std.specs.Prelude.{◌≡◌, ◌≢◌, ◌⊎◌, ℕ, List, Bool, IsTrue, not, false, ◌&&◌, ◌==◌, ◌++◌, bytes_eq, length}
 use Rattle.std.specs.Str.{IsUtf8}
 use Rattle.sshkey_base.specs.declared.error.Error.{Error}
 use Rattle.sshkey_calls.specs.Fingerprints.{GivesDigestOf}
 use Rattle.sshkey_calls.specs.Numbers.{error_status}
-use Rattle.sshkey_entries.specs.ByteLines.{BeginsWithFields}
 use Rattle.sshkey_entries.specs.Cuts.{CutsField}
 use Rattle.sshkey_entries.specs.Fields.{AreKeyFields, AreNoKeyFields, without_blanks}
 use Rattle.sshkey_entries.specs.Items.{is_comma}
-use Rattle.sshkey_entries.specs.KeyFields.{HasKeyFault, NeedsKeyFields}
+use Rattle.sshkey_entries.specs.KeyFields.{AreFields, HasKeyFault, NeedsKeyFields}
 use Rattle.sshkey_entries.specs.OtherKeys.{AreOtherKeyFields}
 use Rattle.sshkey_model.specs.Keys.{Key}
 use Rattle.sshkey_model.specs.Names.{Sha256}
@@ -30,6 +29,14 @@ pub record TellsFields (fields : List ℕ) (n : ℕ) (was answer : List ℕ) : T
   pub fault : n ≢ 0 → n ≢ 1 → n ≢ 61 → ¬ AreOtherKeyFields fields × ((e : Error) × HasKeyFault fields e × (n ≡ error_status e))
   pub memory : n ≡ 1 → NeedsKey fields
   pub stays : n ≢ 0 → answer ≡ was
+
+-- The line begins with two fields, which these bytes are, with what stands between them.
+pub record BeginsWithFields (line fields : List ℕ) : Type 0 where
+  pub name : List ℕ
+  pub word : List ℕ
+  pub rest : List ℕ
+  pub two : AreFields line name word rest
+  pub is : line ≡ fields ++ rest
 
 -- That is told of its first two fields, blanks at its front aside; or these are no text.
 pub record TellsAuthority (line : List ℕ) (n : ℕ) (was answer : List ℕ) : Type 0 where

@@ -1,7 +1,7 @@
 -- What is answered of a time.
 use Rattle.std.specs.Prelude.{◌≡◌, ℕ, List, Option, Some, None}
-use Rattle.sshkey_times.specs.Times.{ReadsTime}
-use Rattle.sshkey_times.specs.declared.times.Span.{Span}
+use Rattle.sshkey_matching.specs.Times.{ReadsTime}
+use Rattle.sshkey_matching.specs.declared.times.Span.{Span}
 use Rattle.sshkey_entry_calls.specs.declared.times.TimeSpan.{TimeSpan}
 
 -- 0 and the seconds that it may mean; or 15.

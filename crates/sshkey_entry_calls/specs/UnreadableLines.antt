@@ -1,8 +1,8 @@
 -- What is answered of the lines of a text of known_hosts that cannot be read.
 use Rattle.std.specs.Prelude.{◌≡◌, ◌≢◌, ◌⊎◌, ℕ, List, Option, Some, None}
 use Rattle.std.specs.Str.Lines.{lines}
-use Rattle.sshkey_addresses.specs.AskedHosts.{IsAsked, IsHostFault}
-use Rattle.sshkey_addresses.specs.declared.host.HostFault.{HostFault}
+use Rattle.sshkey_matching.specs.AskedHosts.{IsAsked, IsHostFault}
+use Rattle.sshkey_matching.specs.declared.host.HostFault.{HostFault}
 use Rattle.sshkey_entries.specs.HostNames.{known_name}
 use Rattle.sshkey_known_hosts.specs.Hmac.{hmac_sha1}
 use Rattle.sshkey_known_hosts.specs.UnreadableLines.{HidesEntryIn, IsNumberOfFirst}

@@ -3,8 +3,8 @@
 ghost use Rattle.std.specs.Prelude.{◌≡◌, ◌≢◌};
 ghost use Rattle.sshkey_entry_calls.specs.AskedHosts.{host_fault_status};
 
-use sshkey_addresses::HostFault;
 use sshkey_calls::number::MEMORY;
+use sshkey_matching::HostFault;
 
 /// The port is 0.
 const NO_PORT: u32 = 100;

@@ -1,7 +1,6 @@
 //! Entries of lines, as OpenSSH reads them.
 
-ghost use Rattle.std.specs.Prelude.{◌≡◌, ◌≢◌, IfOk, option_map};
-ghost use Rattle.std.specs.Str.{IsUtf8};
+ghost use Rattle.std.specs.Prelude.{◌≡◌, IfOk, option_map};
 ghost use Rattle.sshkey_authorized_keys.specs.OpenSshEntries.{openssh_entry_of};
 ghost use Rattle.sshkey_authorized_keys.specs.OpenSshFaults as keys;
 ghost use Rattle.sshkey_entries.specs.OpenSshLines.{IsAuthorizedLine, IsHostLine};
@@ -13,12 +12,11 @@ ghost use Rattle.sshkey_entry_calls.specs.Entries.{ArePlaced, FindsEntry, NeedsA
 
 use sshkey_authorized_keys::{Entry as AuthorizedEntry, OpenSshEntry};
 use sshkey_base::Result;
-use sshkey_calls::number::{MEMORY, TEXT, error_status};
+use sshkey_calls::number::{MEMORY, error_status};
 use sshkey_calls::part::{self, Part, add, add_encoded};
 use sshkey_known_hosts::{Entry as KnownHost, Marker};
 use sshkey_public::PublicKey;
 use std::alloc::Global;
-use std::str;
 
 /// Where the parts of an entry are in the room that was given.
 #[repr(C)]
@@ -37,30 +35,16 @@ pub struct EntryParts {
     pub marker: u32,
 }
 
-/// The entry of a line of authorized_keys as sshd(8) reads it ("AUTHORIZED_KEYS FILE FORMAT"): its
-/// options, its key and its comment.
+/// Answers with the entry of a line of authorized_keys, its parts in the room.
 ///
-/// Returns 0 with the entry in the room, 2 where the room is too short for it, 1 if memory ran out,
-/// 4 for a line that is not UTF-8, and from 10 to 29 a fault of a line that is no entry. With 2 the
-/// answer says how much room is needed, and the room is as it was; with every other number but 0
-/// answer and room are. Memory is taken only where a field of the line needs some, or for an entry.
-pub fn authorized_entry(alloc: Global, line: &[u8], room: &mut [u8], answer: &mut EntryParts) -> u32
-    ensures entry { IsUtf8 line.now → FindsEntry (IsAuthorizedLine line.now) of_authorized_key
-        result answer.old answer.new room.old room.new }
-    ensures fault { IsUtf8 line.now → TellsFault keys.HasLineFault line.now result }
-    ensures text { (IsUtf8 line.now → ⊥) → result ≡ 4 }
-    ensures stays { result ≢ 0 → result ≢ 2
-        → (answer.new ≡ answer.old) × (room.new ≡ room.old) }
-    ensures memory { result ≡ 1 → NeedsAuthorizedEntry line.now }
-{
-    match str::from_utf8(line) {
-        Ok(text) => authorized_entry_of(alloc, text, room, answer),
-        Err(_) => TEXT,
-    }
-}
-
-/// The same of a line that is a text.
-fn authorized_entry_of(alloc: Global, line: &str, room: &mut [u8], answer: &mut EntryParts) -> u32
+/// Returns 0, 2 where the room is shorter, 1 if memory ran out, and from 10 to 29 a fault of a line
+/// that is no entry.
+pub fn authorized_entry_of(
+    alloc: Global,
+    line: &str,
+    room: &mut [u8],
+    answer: &mut EntryParts,
+) -> u32
     ensures entry { FindsEntry (IsAuthorizedLine line.now) of_authorized_key
         result answer.old answer.new room.old room.new }
     ensures fault { TellsFault keys.HasLineFault line.now result }
@@ -86,27 +70,8 @@ fn tell_authorized_key(
     answer_with(alloc, options, entry.public_key(), 0, room, answer)
 }
 
-/// The entry of a line of known_hosts as OpenSSH reads it (sshd(8), "SSH_KNOWN_HOSTS FILE FORMAT"):
-/// its marker, its hosts, its key and its comment. Patterns of hosts are joined by commas.
-///
-/// Returns what `authorized_entry` does. Memory is taken only where the line has hosts.
-pub fn known_host(alloc: Global, line: &[u8], room: &mut [u8], answer: &mut EntryParts) -> u32
-    ensures entry { IsUtf8 line.now → FindsEntry (IsHostLine line.now) of_known_host
-        result answer.old answer.new room.old room.new }
-    ensures fault { IsUtf8 line.now → TellsFault hosts.HasLineFault line.now result }
-    ensures text { (IsUtf8 line.now → ⊥) → result ≡ 4 }
-    ensures stays { result ≢ 0 → result ≢ 2
-        → (answer.new ≡ answer.old) × (room.new ≡ room.old) }
-    ensures memory { result ≡ 1 → hosts.NeedsHostLine line.now }
-{
-    match str::from_utf8(line) {
-        Ok(text) => known_host_of(alloc, text, room, answer),
-        Err(_) => TEXT,
-    }
-}
-
-/// The same of a line that is a text.
-fn known_host_of(alloc: Global, line: &str, room: &mut [u8], answer: &mut EntryParts) -> u32
+/// Answers with the entry of a line of known_hosts, likewise.
+pub fn known_host_of(alloc: Global, line: &str, room: &mut [u8], answer: &mut EntryParts) -> u32
     ensures entry { FindsEntry (IsHostLine line.now) of_known_host
         result answer.old answer.new room.old room.new }
     ensures fault { TellsFault hosts.HasLineFault line.now result }

@@ -1,42 +1,40 @@
-//! The calls of the library for C about authorized_keys, known_hosts, allowed signers, revocation
-//! files, addresses and times, as an ordinary library: the lines of a text, the entry of a line, the
-//! options of an entry, what a text or a list of keys says of a signature, or files of a key or a
-//! certificate, whether a list of addresses lets a client in, and which seconds a time means.
+//! What the calls of the library for C (`sshkey_c`) are made of that are about texts and their
+//! lines: authorized_keys, known_hosts and whether a key or a certificate is a host's, allowed
+//! signers, revocation files, addresses and times, the picture of a key, and a host with its port
+//! as a user types them.
 //!
-//! As those of `sshkey_calls`, each call answers with a number, and the bytes that it answers with
-//! are in the caller's room.
+//! As in `sshkey_calls`: what they answer, in mathematics, the structs that they answer with, and
+//! their steps. HMAC-SHA1 is that of `sshkey_known_hosts`.
 #![tactic(auto)]
 
-mod addresses;
+pub mod addresses;
 mod asked_host;
-mod authorities;
-mod entries;
-mod later_kinds;
-mod lines;
-mod modes;
-mod options;
-mod other_key;
+pub mod authorities;
+mod destination;
+pub mod entries;
+pub mod examples;
+pub mod host_answer;
+pub mod host_certificate;
+pub mod host_key;
+mod host_request;
+pub mod later_kinds;
+pub mod lines;
+mod numbers;
+pub mod options;
+pub mod picture;
 mod revocation_files;
-mod revocations;
-mod signers;
-mod sshsig;
+pub mod revocations;
+pub mod signers;
+pub mod sshsig;
 mod times;
-mod unreadable_line;
-mod verifiers;
+pub mod unreadable_line;
+pub mod verifiers;
 
-pub use addresses::{address_of, check_from, check_source_address};
+pub use addresses::address_of;
 pub use asked_host::host_fault_status;
-pub use authorities::{authority, user_authority};
-pub use entries::{EntryParts, authorized_entry, known_host};
-pub use later_kinds::names_later_kind;
-pub use lines::next_line;
-pub use modes::check_safe_mode;
-pub use options::{OptionParts, next_line_option};
-pub use other_key::is_later_key_line;
+pub use destination::{HostAndPort, read_destination};
+pub use entries::EntryParts;
+pub use host_request::HostRequest;
+pub use options::OptionParts;
 pub use revocation_files::RevocationFiles;
-pub use revocations::{check_unrevoked_certificate, check_unrevoked_key};
-pub use signers::check_signer;
-pub use sshsig::check_sshsig;
-pub use times::{TimeSpan, read_time};
-pub use unreadable_line::unreadable_host_line;
-pub use verifiers::may_verify;
+pub use times::TimeSpan;

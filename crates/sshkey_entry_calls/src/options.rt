@@ -6,15 +6,13 @@ ghost use Rattle.sshkey_entries.specs.Items.{is_comma};
 ghost use Rattle.sshkey_entries.specs.OptionEnds.{is_plain_quote};
 ghost use Rattle.sshkey_entries.specs.OptionItems.{without_commas};
 ghost use Rattle.sshkey_calls.specs.Rooms.{IsLaidOut};
-ghost use Rattle.sshkey_entry_calls.specs.Options.{ArePlaced, EndsAt, FindsFirst, FindsKeyOption, TellsOption, option_bytes};
+ghost use Rattle.sshkey_entry_calls.specs.Options.{ArePlaced, EndsAt, FindsFirst, TellsOption, option_bytes};
 
-use crate::lines::rest_from;
 use sshkey_authorized_keys::{OpenSshOption, OpenSshOptionsIter};
 use sshkey_base::Result;
-use sshkey_calls::number::{END, FORMAT, TEXT};
+use sshkey_calls::number::FORMAT;
 use sshkey_calls::part::{self, Part, add};
 use std::alloc::Global;
-use std::str;
 
 /// Where the name and the value of an option are in the room that was given.
 #[repr(C)]
@@ -33,37 +31,8 @@ pub struct OptionParts {
     pub has_value: u32,
 }
 
-/// The option of an entry of authorized_keys that stands at that place, after commas (sshd(8),
-/// "AUTHORIZED_KEYS FILE FORMAT"). The next one is found from `next` on; begin at 0.
-///
-/// Returns 0 with the option in the room, 2 where the room is too short for it, 3 exactly where
-/// nothing but commas is left, 1 if memory ran out, 15 where no option stands there, and 4 where
-/// the bytes up to the next comma outside quotes are not UTF-8. With 2 the answer says how much
-/// room is needed, and the room is as it was; with every other number but 0 answer and room are.
-/// What follows the option is not read: where a fault is in it, a later call refuses.
-pub fn next_line_option(
-    alloc: Global,
-    options: &[u8],
-    place: usize,
-    room: &mut [u8],
-    answer: &mut OptionParts,
-) -> u32
-    ensures { FindsKeyOption options.now place result answer.old answer.new room.old room.new }
-{
-    let left = skip_commas(rest_from(options, place));
-    if left.is_empty() {
-        return END;
-    }
-    let end = option_end(left);
-    let next = options.len() - (left.len() - end);
-    match str::from_utf8(&left[..end]) {
-        Ok(text) => tell_option(alloc, text, next, room, answer),
-        Err(_) => TEXT,
-    }
-}
-
 /// Answers with the option that a text begins with, and with that place of the next one.
-fn tell_option(
+pub fn tell_option(
     alloc: Global,
     text: &str,
     next: usize,
@@ -92,7 +61,7 @@ fn other_place(bytes: &[u8]) -> Option<usize>
 }
 
 /// The bytes without the commas at their front.
-fn skip_commas(bytes: &[u8]) -> &[u8]
+pub fn skip_commas(bytes: &[u8]) -> &[u8]
     ensures { result.now ≡ without_commas bytes.now }
 {
     match other_place(bytes) {
@@ -110,7 +79,7 @@ fn is_plain_quote(bytes: &[u8], place: usize) -> bool
 }
 
 /// Where the option at the front ends: at the first comma outside quotes, or with the bytes.
-fn option_end(bytes: &[u8]) -> usize
+pub fn option_end(bytes: &[u8]) -> usize
     ensures { EndsAt bytes.now result }
 {
     let mut is_inside = false;

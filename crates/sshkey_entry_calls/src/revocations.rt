@@ -1,69 +1,31 @@
 //! Whether revocation files leave a key or a certificate unrevoked.
 
-ghost use Rattle.std.specs.Prelude.{◌≡◌, ◌≢◌, ◌⊎◌, Bool, Err, IfErr, IfOk, IsErrAnd};
+ghost use Rattle.std.specs.Prelude.{◌≡◌, ◌≢◌, Bool, Err, IfErr, IfOk, IsErrAnd};
 ghost use Rattle.sshkey_base.specs.Acceptance.{SpellsSome};
 ghost use Rattle.sshkey_base.specs.Causes.{Faulty, NoMemory, cause};
-ghost use Rattle.sshkey_calls.specs.NormalForms.{IsRenamedKey};
-ghost use Rattle.sshkey_calls.specs.Numbers.{fault_number};
-ghost use Rattle.sshkey_calls.specs.Revocations.{TellsRevoked};
 ghost use Rattle.sshkey_keys.specs.Keys.{key_of};
 ghost use Rattle.sshkey_krl.specs.Revocations as values;
 ghost use Rattle.sshkey_model.specs.Certificates.{certificate_at, SpellsCertificate};
 ghost use Rattle.sshkey_model.specs.Keys.{normal_key, SpellsKey, key_data_at};
 ghost use Rattle.sshkey_model.specs.Parts.{flat};
 ghost use Rattle.sshkey_model.specs.Reading.{Fault, whole};
-ghost use Rattle.sshkey_entry_calls.specs.RevocationFiles.{NeedsFiles, one_revokes, one_revokes_key, reads_of};
-ghost use Rattle.sshkey_entry_calls.specs.Revocations.{IsWhether, TellsRevokedCertificate, TellsRevokedKey};
+ghost use Rattle.sshkey_calls.specs.NormalForms.{IsRenamedKey};
+ghost use Rattle.sshkey_calls.specs.Numbers.{fault_number};
+ghost use Rattle.sshkey_calls.specs.Revocations.{TellsRevoked};
+ghost use Rattle.sshkey_entry_calls.specs.RevocationFiles.{one_revokes, one_revokes_key, reads_of};
+ghost use Rattle.sshkey_entry_calls.specs.Revocations.{IsWhether};
 
 use crate::revocation_files::RevocationFiles;
 use sshkey_base::{Error, Result, encode_vec};
-use sshkey_calls::number::{DONE, MEMORY, REVOKED, UNREADABLE_REVOCATIONS, error_status};
+use sshkey_calls::number::{DONE, REVOKED, error_status};
 use sshkey_cert_ref::CertificateRef;
 use sshkey_keys::KeyData;
 use sshkey_keys_ref::KeyDataRef;
 use sshkey_krl::Revocations;
 use std::alloc::Global;
 
-/// Whether none of the revocation files (`RevocationFiles`) revokes the key that all its bytes
-/// spell.
-///
-/// Returns 0 if none does, 56 if one does, 58 if a file cannot be read or there is none, which
-/// revokes everything, from 10 to 29 the fault of bytes that are no key, and 1 if memory ran out.
-/// So 0 alone says that the key is not revoked. Of one list, memory is taken only for an RSA key
-/// under another name than `ssh-rsa`.
-pub fn check_unrevoked_key(alloc: Global, revoked: &[&[u8]], key: &[u8]) -> u32
-    ensures answer { TellsRevokedKey revoked.now key.now result }
-    ensures memory { result ≡ 1 → NeedsFiles revoked.now ⊎ IsRenamedKey key.now }
-{
-    let Ok(files) = RevocationFiles::read(alloc, revoked) else {
-        return MEMORY;
-    };
-    if !files.are_read() {
-        return UNREADABLE_REVOCATIONS;
-    }
-    key_status(alloc, &files, key)
-}
-
-/// Whether none of the revocation files revokes the certificate that all its bytes spell.
-///
-/// Returns what `check_unrevoked_key` does, with the fault of bytes that are no certificate. Of one
-/// list, memory is taken only for bytes that are one.
-pub fn check_unrevoked_certificate(alloc: Global, revoked: &[&[u8]], certificate: &[u8]) -> u32
-    ensures answer { TellsRevokedCertificate revoked.now certificate.now result }
-    ensures memory { result ≡ 1 → NeedsFiles revoked.now
-        ⊎ SpellsSome SpellsCertificate certificate.now }
-{
-    let Ok(files) = RevocationFiles::read(alloc, revoked) else {
-        return MEMORY;
-    };
-    if !files.are_read() {
-        return UNREADABLE_REVOCATIONS;
-    }
-    certificate_status(alloc, &files, certificate)
-}
-
 /// The number of what the files say of the key.
-fn key_status(alloc: Global, files: &RevocationFiles<'_>, key: &[u8]) -> u32
+pub fn key_status(alloc: Global, files: &RevocationFiles<'_>, key: &[u8]) -> u32
     ensures exactly { TellsRevoked (IsWhether SpellsKey
         (λ k. values.is_key_revoked (one_revokes_key (reads_of files.now)) k) key.now) result }
     ensures fault { (met : Fault) → whole key_data_at key.now ≡ Err met
@@ -96,7 +58,7 @@ fn is_key_revoked(alloc: Global, files: &RevocationFiles<'_>, key: &[u8]) -> Res
 }
 
 /// The number of what the files say of the certificate.
-fn certificate_status(alloc: Global, files: &RevocationFiles<'_>, certificate: &[u8]) -> u32
+pub fn certificate_status(alloc: Global, files: &RevocationFiles<'_>, certificate: &[u8]) -> u32
     ensures exactly { TellsRevoked (IsWhether SpellsCertificate
         (λ c. values.is_certificate_revoked (one_revokes (reads_of files.now)) c) certificate.now) result }
     ensures fault { (met : Fault) → whole certificate_at certificate.now ≡ Err met

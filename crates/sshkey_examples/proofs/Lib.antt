@@ -2,3 +2,4 @@ mod Answered
 mod HostCertificates
 mod Room
 mod Faults
+mod Signers

@@ -1,2 +1,3 @@
-pub mod Signed
 pub mod HostCertificates
+pub mod Signed
+pub mod Signers

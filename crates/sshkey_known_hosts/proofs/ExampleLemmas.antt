@@ -21,21 +21,22 @@ use Rattle.sshkey_model.proofs.Base64Words.{is_other_than}
 use Rattle.sshkey_model.proofs.CombinedReaders.{bytes_fit}
 use Rattle.sshkey_model.proofs.KeyReaders.{key_reads}
 use Rattle.sshkey_model.proofs.LineTests.{all_characters, each, lacks}
-use Rattle.sshkey_patterns.specs.Commas.{patterns}
-use Rattle.sshkey_patterns.proofs.Deciding.{decides_all, decides_list, matches_list}
+use Rattle.sshkey_matching.specs.Commas.{patterns}
+use Rattle.sshkey_matching.proofs.PatternTests.{decides_all, decides_list, matches_list}
 use Rattle.sshkey_entries.specs.Entries.{hash_sign}
 use Rattle.sshkey_entries.specs.Cuts.{CutsField}
-use Rattle.sshkey_entries.specs.Fields.{AreKeyFields, AreNoKeyFields, EndsField, IsField, without_blanks}
+use Rattle.sshkey_entries.specs.Fields.{AreKeyFields, AreNoKeyFields, CutsWord, EndsField, IsField, without_blanks}
 use Rattle.sshkey_entries.specs.Fronts.{without_front}
 use Rattle.sshkey_entries.specs.HostNames.{AreFor, AreForName, BeginWithBar}
+use Rattle.sshkey_entries.specs.KeyFields.{AreFields}
 use Rattle.sshkey_entries.specs.HostVerdicts.{HidesEntry, IsAuthority, IsForOthers, Lists}
-use Rattle.sshkey_entries.specs.KnownHosts.{ArePatterns, CertAuthority, HashedName, Hosts, IsHosts, Marker, Patterns, Revoked, at_sign, bar, hashed_mark, hashed_text, marker_text}
+use Rattle.sshkey_entries.specs.KnownHosts.{ArePatterns, CertAuthority, HashedName, Hosts, IsHosts, Marker, Patterns, Revoked, after_marker, at_sign, bar, hashed_mark, hashed_text, marker_text}
 use Rattle.sshkey_entries.specs.OpenSshLines.{EndsMarker, IsHostLine, IsMarkedLine}
 use Rattle.sshkey_entries.specs.OptionEnds.{is_blank}
-use Rattle.sshkey_entries.specs.OtherKeys.{AreOtherKeyFields}
+use Rattle.sshkey_entries.specs.OtherKeys.{AreForeignKeyFields, IsFormerName, IsOtherName}
 use Rattle.sshkey_entries.proofs.FieldKeys.{no_word}
 use Rattle.sshkey_entries.proofs.Fronts.{skipped, stays}
-use Rattle.sshkey_entries.proofs.OtherKeys.{fields_named}
+use Rattle.sshkey_entries.proofs.OtherKeys.{named_under}
 use Rattle.sshkey_known_hosts.specs.Examples.{Say, SaysNothing, SaysOfKeys, broken_line, host, key_text, line, other_line, other_text}
 use Rattle.sshkey_known_hosts.specs.Hmac.{hmac_sha1}
 use Rattle.sshkey_known_hosts.specs.declared.verdict.Verdict.{Verdict}
@@ -98,9 +99,8 @@ module _ (rest comment : List ℕ) (ends : EndsField rest) (is : comment ≡ wit
     is = refl;
     one_word = field (codes "ssh-ed25519") refl;
     name_ends = inr refl;
-    word = refl;
+    word = record { field = codes "AAAAC3NzaC1lZDI1NTE5AAAAILM+rvN+ot98qgEN796jTiQfZfG1KaT0PtFDJ/XFSqti"; is = refl; one_word = field (codes "AAAAC3NzaC1lZDI1NTE5AAAAILM+rvN+ot98qgEN796jTiQfZfG1KaT0PtFDJ/XFSqti") refl; ends = ends; word_is = refl };
     spelled = own_spelled;
-    key_ends = ends;
     comment_is = is;
   }
 
@@ -113,9 +113,8 @@ module _ (rest comment : List ℕ) (ends : EndsField rest) (is : comment ≡ wit
     is = refl;
     one_word = field (codes "ssh-ed25519") refl;
     name_ends = inr refl;
-    word = refl;
+    word = record { field = codes "AAAAC3NzaC1lZDI1NTE5AAAAIH1MFwI1oRdEifXgBQvWQfCBBtA/Pi8YCUE/I3wXFJo2"; is = refl; one_word = field (codes "AAAAC3NzaC1lZDI1NTE5AAAAIH1MFwI1oRdEifXgBQvWQfCBBtA/Pi8YCUE/I3wXFJo2") refl; ends = ends; word_is = refl };
     spelled = other_spelled;
-    key_ends = ends;
     comment_is = is;
   }
 
@@ -204,35 +203,43 @@ ends_marker : (m : Marker) (rest : List ℕ) → EndsMarker m (space ∷ rest)
 ends_marker CertAuthority rest = inl refl
 ends_marker Revoked rest = tt
 
+module _ (fields : List ℕ) (whole : all_characters (is_other_than 0) (space ∷ fields) ≡ true) where
+  abbrev after : List ℕ
+  after = space ∷ fields
+
+  -- before those fields
+  pub parts_before : (m : Option Marker) (hosts : List ℕ) → fit_in hosts ≡ true → HasParts (after_marker m (hosts ++ after)) m hosts after
+  parts_before m [] e = absurd (never e)
+  parts_before None (c ∷ hosts) e =
+      let blanks = and_parts _ _ e in
+      let zeros = and_parts _ _ blanks.1 in
+      let marks = and_parts _ _ zeros.1 in
+      let first : is_blank c ≡ false = not-true _ (and_parts _ _ blanks.0).0 in
+      let same : without_blanks ((c ∷ hosts) ++ after) ≡ (c ∷ hosts) ++ after = stays is_blank c (hosts ++ after) first in
+      record {
+        no_zero = lacks 0 ((c ∷ hosts) ++ after) (both (is_other_than 0) (c ∷ hosts) after zeros.0 whole);
+        no_comment = λ is. no _ marks.1 (eq-eqb c hash_sign (ap (λ (t : List ℕ). slice_index t 0) (sym same) ∙ is));
+        marked = (same, λ is. no _ marks.0 (eq-eqb c at_sign (ap (λ (t : List ℕ). slice_index t 0) (sym same) ∙ is)));
+        one_word = field (c ∷ hosts) blanks.0;
+        ends = inr refl;
+      }
+  parts_before (Some m) (c ∷ hosts) e =
+      let blanks = and_parts _ _ e in
+      let zeros = and_parts _ _ blanks.1 in
+      let marks = and_parts _ _ zeros.1 in
+      let first : is_blank c ≡ false = not-true _ (and_parts _ _ blanks.0).0 in
+      let rest : without_blanks (space ∷ ((c ∷ hosts) ++ after)) ≡ (c ∷ hosts) ++ after = skipped is_blank space ((c ∷ hosts) ++ after) refl ∙ stays is_blank c (hosts ++ after) first in
+      let same = marker_stays m (space ∷ ((c ∷ hosts) ++ after)) in
+      record {
+        no_zero = lacks 0 (marker_text m ++ (space ∷ ((c ∷ hosts) ++ after))) (both (is_other_than 0) (marker_text m) (space ∷ ((c ∷ hosts) ++ after)) (marker_whole m) (both (is_other_than 0) (c ∷ hosts) after zeros.0 whole));
+        no_comment = λ is. marker_begins m (space ∷ ((c ∷ hosts) ++ after)) (ap (λ (t : List ℕ). slice_index t 0) (sym same) ∙ is);
+        marked = (space ∷ ((c ∷ hosts) ++ after), same, (inr refl, ends_marker m _), sym rest, λ is. no _ marks.0 (eq-eqb c at_sign is));
+        one_word = field (c ∷ hosts) blanks.0;
+        ends = inr refl;
+      }
+
 pub parts : (m : Option Marker) (hosts : List ℕ) → fit_in hosts ≡ true → HasParts (line m hosts) m hosts after_hosts
-parts m [] e = absurd (never e)
-parts None (c ∷ hosts) e =
-    let blanks = and_parts _ _ e in
-    let zeros = and_parts _ _ blanks.1 in
-    let marks = and_parts _ _ zeros.1 in
-    let first : is_blank c ≡ false = not-true _ (and_parts _ _ blanks.0).0 in
-    let same : without_blanks (line None (c ∷ hosts)) ≡ line None (c ∷ hosts) = stays is_blank c (hosts ++ after_hosts) first in
-    record {
-      no_zero = lacks 0 (line None (c ∷ hosts)) (both (is_other_than 0) (c ∷ hosts) after_hosts zeros.0 refl);
-      no_comment = λ is. no _ marks.1 (eq-eqb c hash_sign (ap (λ (t : List ℕ). slice_index t 0) (sym same) ∙ is));
-      marked = (same, λ is. no _ marks.0 (eq-eqb c at_sign (ap (λ (t : List ℕ). slice_index t 0) (sym same) ∙ is)));
-      one_word = field (c ∷ hosts) blanks.0;
-      ends = inr refl;
-    }
-parts (Some m) (c ∷ hosts) e =
-    let blanks = and_parts _ _ e in
-    let zeros = and_parts _ _ blanks.1 in
-    let marks = and_parts _ _ zeros.1 in
-    let first : is_blank c ≡ false = not-true _ (and_parts _ _ blanks.0).0 in
-    let rest : without_blanks (space ∷ ((c ∷ hosts) ++ after_hosts)) ≡ (c ∷ hosts) ++ after_hosts = skipped is_blank space ((c ∷ hosts) ++ after_hosts) refl ∙ stays is_blank c (hosts ++ after_hosts) first in
-    let same = marker_stays m (space ∷ ((c ∷ hosts) ++ after_hosts)) in
-    record {
-      no_zero = lacks 0 (line (Some m) (c ∷ hosts)) (both (is_other_than 0) (marker_text m) (space ∷ ((c ∷ hosts) ++ after_hosts)) (marker_whole m) (both (is_other_than 0) (c ∷ hosts) after_hosts zeros.0 refl));
-      no_comment = λ is. marker_begins m (space ∷ ((c ∷ hosts) ++ after_hosts)) (ap (λ (t : List ℕ). slice_index t 0) (sym same) ∙ is);
-      marked = (space ∷ ((c ∷ hosts) ++ after_hosts), same, (inr refl, ends_marker m _), sym rest, λ is. no _ marks.0 (eq-eqb c at_sign is));
-      one_word = field (c ∷ hosts) blanks.0;
-      ends = inr refl;
-    }
+parts = parts_before key_text refl
 
 -- ---- hosts of whatever kind
 
@@ -338,8 +345,8 @@ lone = codes "ssh-ed25519"
 lone_first : CutsField lone lone []
 lone_first = record { is = refl; one_word = field lone refl; ends = inl refl }
 
-nothing_second : CutsField [] [] []
-nothing_second = record { is = refl; one_word = λ i l. absurd (omega (arith, l)); ends = inl refl }
+nothing_second : CutsWord [] [] []
+nothing_second = record { field = []; is = refl; one_word = λ i l. absurd (omega (arith, l)); ends = inl refl; word_is = refl }
 
 nothing_left : [] ≡ without_blanks []
 unfolding without_front
@@ -348,9 +355,17 @@ nothing_left = refl
 no_key : AreNoKeyFields lone
 no_key = no_word lone lone [] [] [] [] lone_first nothing_left nothing_second refl
 
-no_other_key : AreOtherKeyFields lone → ⊥
+lone_fields : AreFields lone lone [] []
+unfolding without_front
+lone_fields = record { after = []; first = lone_first; second = nothing_second }
+
+no_foreign_key : AreForeignKeyFields lone → ⊥
 unfolding named
-no_other_key o = let e = (fields_named lone lone [] [] [] [] lone_first nothing_left nothing_second o).0.not_fixed in cc e
+no_foreign_key (inl other) = let e = (named_under lone lone [] [] lone_fields IsOtherName other).0.not_fixed in cc e
+no_foreign_key (inr former) = elim (named_under lone lone [] [] lone_fields IsFormerName former.0).0 [
+  | inl is ↦ differ lone (codes "ssh-xmss@openssh.com") refl is
+  | inr is ↦ differ lone (codes "ssh-xmss-cert-v01@openssh.com") refl is
+]
 
 keyless : (text : List ℕ) → HasParts text None host (space ∷ lone) → HidesEntry hmac_sha1 host text
 unfolding without_front
@@ -368,7 +383,7 @@ keyless text has = fields_hide hmac_sha1 host text None lone
       is_for = host_fits;
       fields_are = refl;
     })
-    no_key no_other_key
+    no_key no_foreign_key
 
 lone_parts : HasParts broken_line None host (space ∷ lone)
 unfolding without_front

@@ -9,7 +9,7 @@ use Rattle.sshkey_entries.specs.HostNames.{AreFor}
 use Rattle.sshkey_entries.specs.HostVerdicts.{HidesEntry, IsForOthers, Lists, ListsOther}
 use Rattle.sshkey_entries.specs.KnownHosts.{Marker, Hosts, IsHosts}
 use Rattle.sshkey_entries.specs.OpenSshLines.{IsMarkedLine}
-use Rattle.sshkey_entries.specs.OtherKeys.{AreOtherKeyFields}
+use Rattle.sshkey_entries.specs.OtherKeys.{AreForeignKeyFields}
 use Rattle.sshkey_entries.proofs.Fields.{same_field}
 use Rattle.sshkey_entries.proofs.OneHost.{one_hosts}
 use Rattle.sshkey_entries.proofs.OneOpenSshLine.{one_marked}
@@ -134,7 +134,7 @@ module _ (hmac : List ℕ → List ℕ → List ℕ) (name line : List ℕ) wher
       refl,
     )
 
-    pub other_lists : AreOtherKeyFields fields → ListsOther hmac name m line
+    pub other_lists : AreForeignKeyFields fields → ListsOther hmac name m line
     other_lists are = record {
       hosts = c.hosts;
       read = record {
@@ -146,7 +146,7 @@ module _ (hmac : List ℕ → List ℕ → List ℕ) (name line : List ℕ) wher
         one_word = c.one_word;
         hosts_end = c.hosts_end;
         are = c.are;
-        fields = subst AreOtherKeyFields c.fields_are are;
+        fields = subst AreForeignKeyFields c.fields_are are;
       };
       is_for = c.is_for;
     }
@@ -160,11 +160,11 @@ module _ (hmac : List ℕ → List ℕ → List ℕ) (name line : List ℕ) wher
     pub no_others : IsForOthers hmac name line → ⊥
     no_others f = never_for f m c.hosts_part c.after_hosts c.hosts c.marked c.one_word c.hosts_end c.are c.is_for
 
-    pub fields_hide : AreNoKeyFields fields → (AreOtherKeyFields fields → ⊥) → HidesEntry hmac name line
+    pub fields_hide : AreNoKeyFields fields → (AreForeignKeyFields fields → ⊥) → HidesEntry hmac name line
     fields_hide none no_other = (
       λ h k. none h.key h.comment (subst (λ (t : List ℕ). AreKeyFields t h.key h.comment) (same_fields h.marker k.hosts_part k.after_hosts k.marked k.one_word k.hosts_end) k.fields),
       no_others,
-      λ l. no_other (subst AreOtherKeyFields (same_fields l.0 l.2.hosts_part l.2.after_hosts l.2.marked l.2.one_word l.2.hosts_end) l.2.fields),
+      λ l. no_other (subst AreForeignKeyFields (same_fields l.0 l.2.hosts_part l.2.after_hosts l.2.marked l.2.one_word l.2.hosts_end) l.2.fields),
     )
 
 -- whatever it is refused for

@@ -7,9 +7,13 @@ pub mod SomeOf
 pub mod Verdicts
 pub mod HostCuts
 pub mod NamedHosts
+pub mod HeldNames
+pub mod HeldLines
+pub mod LinePlaces
 pub mod AuthorityKeys
 pub mod ContainedCharacters
 mod Wholes
 mod UnreadableLines
 pub mod ExampleLemmas
+mod FormerLines
 mod WrittenExamples

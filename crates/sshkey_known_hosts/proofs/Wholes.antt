@@ -1,9 +1,12 @@
--- Reading a source to its end, 20 bytes at a time.
-use Rattle.std.proofs.Common.{◌≡◌, ◌⊎◌, ℕ, ◌+◌, ◌<◌, ◌≤◌, ◌%◌, List, [], ◌∷◌, ◌++◌, length, drop, true, Option, None, Some, inl, inr, refl, sym, ap, ◌∙◌, append_assoc, append-nil, arith}
-use Rattle.std.proofs.lemmas.List.{length-append, length-drop}
+-- Reading a source to its end, 20 bytes at a time, and a word of 20 bytes at once.
+use Rattle.std.proofs.Common.{◌≡◌, ◌⊎◌, ℕ, ◌+◌, ◌<◌, ◌≤◌, ◌%◌, List, [], ◌∷◌, ◌++◌, length, take, drop, true, Option, None, Some, inl, inr, refl, sym, subst, ap, ◌∙◌, append_assoc, append-nil, take-append-drop, arith}
+use Rattle.std.proofs.lemmas.List.{length-append, length-drop, length-take-le}
+use Rattle.base64.specs.Engines.{standard}
+use Rattle.base64.specs.GeneralPurpose.{IsBytes, decode_of}
+use Rattle.base64.proofs.EngineFacts.{decode_of-encode_of, decode_of_strict, front_bytes}
 use Rattle.sshkey_base.specs.Source.{Source, Advances, IsSound, TooFew, announced_len}
 use Rattle.sshkey_base.specs.declared.encoding.Error.{Error}
-use Rattle.sshkey_base64.specs.Words64.{IsSourceOf}
+use Rattle.sshkey_base64.specs.Words64.{DecodesSome, IsSourceOf}
 use Rattle.sshkey_base64.proofs.GoodBytes.{length_word}
 use Rattle.sshkey_model.specs.Parts.{are_bytes}
 use Rattle.sshkey_model.proofs.CombinedReaders.{are_bytes-append, bytes_fit}
@@ -69,3 +72,17 @@ word_read word s None is unread = λ b are same. unread (is.every b are same).0
 
 pub no_groups : (word : List ℕ) → (length word % 4 ≡ 0 → ⊥) → IsNoBase64 word
 no_groups word other b are same = other (omega (arith, ap length same, length_word b))
+
+-- ---- a word that is decoded at once, into room for 21 bytes
+
+pub decoded_twenty : (word : List ℕ) → IsBytes word → (room bytes : List ℕ) (n : ℕ) → DecodesSome word room (Some n) → bytes ≡ take 20 room → ReadsTwenty word (Some (bytes, n))
+decoded_twenty word are room bytes n some same =
+    let these : IsBytes (take n room) = front_bytes (take n room) (drop n room) (subst IsBytes (sym (take-append-drop n room)) (bytes_fit room some.2)) in (
+      take n room,
+      these,
+      decode_of_strict standard word (take n room) (refl, refl) are some.0,
+      (length-take-le n room some.1, λ twenty. ap (λ (k : ℕ). take k room) twenty ∙ sym same),
+    )
+
+pub none_decoded : (word : List ℕ) → DecodesSome word [] None → IsNoBase64 word
+none_decoded word none b are is = none b (ap (decode_of standard) is ∙ decode_of-encode_of standard b refl are)

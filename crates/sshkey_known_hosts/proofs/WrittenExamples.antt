@@ -7,7 +7,7 @@ use Rattle.sshkey_model.specs.KeyExamples.{ed25519_bytes, ed25519_key}
 use Rattle.sshkey_model.specs.Lines.{IsKeyLine, is_word_character, space}
 use Rattle.sshkey_model.specs.Parts.{flat}
 use Rattle.sshkey_model.proofs.LineTests.{each, lacks}
-use Rattle.sshkey_patterns.specs.Commas.{patterns}
+use Rattle.sshkey_matching.specs.Commas.{patterns}
 use Rattle.sshkey_entries.specs.Fronts.{without_front}
 use Rattle.sshkey_entries.specs.KnownHosts.{IsHosts, IsKnownHost, Patterns, known_text}
 use Rattle.sshkey_entries.specs.OpenSshLines.{IsHostLine}

@@ -139,6 +139,33 @@ abbrev pub Blanks : Type 0
 Blanks = Say host ((tab ++ codes "  h.example" ++ tab ++ key_text ++ codes " # me") ∷ []) Trusted Changed
     × Say host ((codes "@revoked" ++ tab ++ codes "h.example " ++ key_text) ∷ []) Revoked Unknown
 
+-- ---- keys of former kinds
+
+-- of XMSS, as the ssh-keygen of an OpenSSH 9.2 with it made one
+abbrev pub xmss_text : List ℕ
+xmss_text = codes "ssh-xmss@openssh.com AAAAFHNzaC14bXNzQG9wZW5zc2guY29tAAAAFVhNU1NfU0hBMi0yNTZfVzE2X0gxMAAAAEC5rpxc6nN/f6k8f/5nWhQ87mqPEujl3o43jDC8RMsC87hTHqsCeVpkiX78DoCZtQJWHAEP3qB0oS2SdMly6sex"
+
+abbrev pub xmss_line : Option Marker → List ℕ
+xmss_line m = after_marker m (host ++ (space ∷ xmss_text))
+
+-- the key in `key_text`, under that name
+abbrev pub misnamed_text : List ℕ
+misnamed_text = codes "ssh-xmss@openssh.com AAAAC3NzaC1lZDI1NTE5AAAAILM+rvN+ot98qgEN796jTiQfZfG1KaT0PtFDJ/XFSqti"
+
+-- a key of a security key under the name of WebAuthn, in its bytes too
+abbrev pub webauthn_text : List ℕ
+webauthn_text = codes "webauthn-sk-ecdsa-sha2-nistp256@openssh.com AAAAK3dlYmF1dGhuLXNrLWVjZHNhLXNoYTItbmlzdHAyNTZAb3BlbnNzaC5jb20AAAAIbmlzdHAyNTYAAABBBGsX0fLhLEJH+Lzm5WOkQPJ3A32BLeszoPShOUXYmMKWT+NC4v4af5uO5+tKfA+eFivOM1drMV7Oy7ZAaDe/UfUAAAAEc3NoOg=="
+
+-- A line of XMSS has another key, and revokes none that is asked about. One may that has other bytes
+-- under its name; and one under the name of WebAuthn does: ssh reads the security key's.
+abbrev pub FormerKinds : Type 0
+FormerKinds = Say host (xmss_line None ∷ []) Changed Changed
+    × Say host (xmss_line (Some known.Revoked) ∷ []) Unknown Unknown
+    × Say host (xmss_line (Some CertAuthority) ∷ []) Unknown Unknown
+    × Say host (line None host ∷ xmss_line (Some known.Revoked) ∷ []) Trusted Changed
+    × MayRevoke (after_marker (Some known.Revoked) (host ++ (space ∷ misnamed_text)))
+    × MayRevoke (after_marker (Some known.Revoked) (host ++ (space ∷ webauthn_text)))
+
 -- ---- several lines
 
 abbrev pub other_line : List ℕ

@@ -8,4 +8,9 @@ pub mod MadeEntries
 pub mod Hmac
 pub mod HmacExamples
 pub mod UnreadableLines
+pub mod HeldNames
+pub mod HeldLines
+pub mod LinePlaces
+pub mod SameLines
 pub mod Examples
+pub mod HeldExamples

@@ -1,6 +1,7 @@
 //! Worked examples of the definitions, on both sides of each edge.
 
-ghost use Rattle.sshkey_known_hosts.specs.Examples.{AuthorityLines, Blanks, BrokenLines, Comments, Hashes, LineKinds, Markers, Names, Numbers, Orders, Patterns, Severities, WrittenLines};
+ghost use Rattle.sshkey_known_hosts.specs.Examples.{AuthorityLines, Blanks, BrokenLines, Comments, FormerKinds, Hashes, LineKinds, Markers, Names, Numbers, Orders, Patterns, Severities, WrittenLines};
+ghost use Rattle.sshkey_known_hosts.specs.HeldExamples.{NameHashes, Places, SameLines, ToldNames};
 ghost use Rattle.sshkey_known_hosts.specs.HmacExamples.{Digests};
 
 /// Patterns of hosts.
@@ -21,6 +22,11 @@ pub fn hashes()
 /// Lines that are no entries.
 pub fn broken_lines()
     ensures { BrokenLines }
+{}
+
+/// Lines with keys of former kinds.
+pub fn former_kinds()
+    ensures { FormerKinds }
 {}
 
 /// Blanks in a line.
@@ -71,4 +77,24 @@ pub fn written_lines()
 /// What a line is to a host.
 pub fn line_kinds()
     ensures { LineKinds }
+{}
+
+/// Hashes of names.
+pub fn name_hashes()
+    ensures { NameHashes }
+{}
+
+/// For which names lines are told.
+pub fn told_names()
+    ensures { ToldNames }
+{}
+
+/// Lines that say the same.
+pub fn same_lines()
+    ensures { SameLines }
+{}
+
+/// Places of lines.
+pub fn line_places()
+    ensures { Places }
 {}

@@ -1,6 +1,6 @@
 //! HMAC-SHA1, over the crate sha1.
 
-ghost use Rattle.std.specs.Prelude.{◌≡◌, slice_index};
+ghost use Rattle.std.specs.Prelude.{◌≡◌};
 ghost use Rattle.sha1.specs.Sha1.{Holds};
 ghost use Rattle.sshkey_known_hosts.specs.Hmac.{hmac_of_block, hmac_sha1, masked};
 
@@ -11,23 +11,13 @@ use sha1::Sha1;
 #[derive(Clone, Copy, Debug)]
 pub struct HmacSha1;
 
-/// The byte at that place, and zero after the last.
-fn byte_at(key: &[u8], place: usize) -> u8
-    ensures { result ≡ slice_index key.now place }
-{
-    match key.get(place) {
-        Some(byte) => *byte,
-        None => 0,
-    }
-}
-
 /// The digest of the key under the mask, as far as it goes.
 fn begun(key: &[u8], mask: u8) -> Sha1
     ensures { Holds result (masked key.now mask) }
 {
-    let mut block = [0; 64];
-    for place in 0..64_usize {
-        block[place] = byte_at(key, place) ^ mask;
+    let mut block = [mask; 64];
+    for place in 0..key.len().min(64) {
+        block[place] = key[place] ^ mask;
     }
     let mut hasher = Sha1::new();
     hasher.update(&block);

@@ -12,7 +12,7 @@ use crate::marker_field::{is_comment, is_without, split_marker_bytes};
 use crate::named_hosts::are_for;
 use sshkey_base::{Error, Result};
 use sshkey_entries::bytes::{skip_blanks, split_blank};
-use sshkey_entries::{bytes_are_other_key_fields, read_key_bytes};
+use sshkey_entries::{bytes_are_former_key_fields, bytes_are_other_key_fields, read_key_bytes};
 use sshkey_public::PublicKey;
 use std::alloc::Global;
 
@@ -44,7 +44,7 @@ impl HostLine {
 
 /// The same before the key is read.
 #[derive(Clone, Copy)]
-enum HostCut<'a> {
+pub(crate) enum HostCut<'a> {
     ForOthers,
     /// The marker before hosts for the name, and the key's fields after them.
     Named(Option<Marker>, &'a [u8]),
@@ -52,7 +52,7 @@ enum HostCut<'a> {
 }
 
 /// The line, cut after its hosts. Takes no memory.
-fn cut_hosts<'a, H: HostHasher>(line: &'a [u8], name: &str, hmac: &H) -> HostCut<'a>
+pub(crate) fn cut_hosts<'a, H: HostHasher>(line: &'a [u8], name: &str, hmac: &H) -> HostCut<'a>
     ensures { IsCut (H.hmac hmac.now) name.now line.now result }
 {
     if !is_without(0, line) {
@@ -76,7 +76,8 @@ fn cut_hosts<'a, H: HostHasher>(line: &'a [u8], name: &str, hmac: &H) -> HostCut
 }
 
 /// What a line is to the host that its hosts name, by its key's fields.
-fn read_fields(alloc: Global, marker: Option<Marker>, fields: &[u8]) -> Result<HostLine>
+#[inline(never)]
+pub(crate) fn read_fields(alloc: Global, marker: Option<Marker>, fields: &[u8]) -> Result<HostLine>
     ensures answer { IfOk result (λ it. (hmac : List ℕ → List ℕ → List ℕ) (name line : List ℕ) →
         HasNamedHosts hmac name line (option_map marker_of marker) fields.now →
         IsToHost hmac name line it) }
@@ -88,7 +89,7 @@ fn read_fields(alloc: Global, marker: Option<Marker>, fields: &[u8]) -> Result<H
             if error.is_memory() {
                 return Err(Error::Memory);
             }
-            if bytes_are_other_key_fields(fields) {
+            if bytes_are_other_key_fields(fields) || bytes_are_former_key_fields(fields) {
                 return Ok(HostLine::OtherKey { marker });
             }
             Ok(HostLine::Unreadable)

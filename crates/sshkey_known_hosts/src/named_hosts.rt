@@ -1,19 +1,25 @@
 //! Whether hosts are for a name, told by their text, without memory.
 
-ghost use Rattle.std.specs.Prelude.{◌≡◌, ◌++◌, ◌<◌, ◌↔◌, IsTrue, length, slice_index};
+ghost use Rattle.std.specs.Prelude.{◌≡◌, ◌++◌, ◌<◌, ◌≤◌, ◌↔◌, IsTrue, length, slice_index};
+ghost use Rattle.base64.specs.Decode.{decoded_estimate};
+ghost use Rattle.sshkey_base64.specs.Words64.{DecodesSome};
 ghost use Rattle.sshkey_entries.specs.HostNames.{AreForName};
 ghost use Rattle.sshkey_entries.specs.Items.{patterns};
 ghost use Rattle.sshkey_entries.specs.KnownHosts.{bar, hashed_mark};
 ghost use Rattle.sshkey_known_hosts.specs.NamedHosts.{ReadsAll, ReadsTwenty, TellsHosts};
 
 use crate::host_hasher::HostHasher;
+use base64::engine::general_purpose::STANDARD;
 use sshkey_base::Reader;
 use sshkey_base64::Base64Reader;
 use sshkey_entries::bytes::text_of;
-use sshkey_entries::{LetterCase, bytes_match_pattern_list, split_first_pattern};
+use sshkey_entries::{LetterCase, bytes_match_pattern_list};
 
 /// The bytes of a salt that OpenSSH takes, and of a hash.
 const LEN: usize = 20;
+
+/// The symbols of 20 bytes in padded Base64.
+const SYMBOLS: usize = 28;
 
 /// Reads a source to its end: how many bytes it has, and which, if they are 20.
 fn read_all<R: Reader + Drop>(mut reader: R) -> Option<([u8; LEN], usize)>
@@ -30,10 +36,36 @@ fn read_all<R: Reader + Drop>(mut reader: R) -> Option<([u8; LEN], usize)>
     Some((bytes, len))
 }
 
-/// The same of a word in padded Base64.
+/// Decodes a word in padded Base64, and says how many bytes it has.
+fn decode(word: &[u8], room: &mut [u8]) -> Option<usize>
+    requires { decoded_estimate (length word.now) ≤ length room.old }
+    ensures { DecodesSome word.now room.new result }
+{
+    match STANDARD.decode_slice_unchecked(word, room) {
+        Ok(len) => Some(len),
+        Err(_) => None,
+    }
+}
+
+/// How many bytes a word of so many symbols has, and which, if they are 20.
+fn read_word(word: &[u8]) -> Option<([u8; LEN], usize)>
+    requires { length word.now ≡ 28 }
+    ensures { ReadsTwenty word.now result }
+{
+    let mut room = [0; LEN + 1];
+    let len = decode(word, &mut room)?;
+    let mut twenty = [0; LEN];
+    twenty.copy_from_slice(&room[..LEN]);
+    Some((twenty, len))
+}
+
+/// The same of any word in padded Base64.
 fn read_twenty(word: &str) -> Option<([u8; LEN], usize)>
     ensures { ReadsTwenty word.now result }
 {
+    if word.len() == SYMBOLS {
+        return read_word(word.as_bytes());
+    }
     match Base64Reader::new(word) {
         Ok(reader) => read_all(reader),
         Err(_) => None,
@@ -41,6 +73,7 @@ fn read_twenty(word: &str) -> Option<([u8; LEN], usize)>
 }
 
 /// Whether the salt and the hash after the mark are the name's, or none if no such two stand there.
+#[inline(never)]
 fn is_hash_of<H: HostHasher>(hashed: &str, name: &str, hmac: &H) -> Option<bool>
     ensures { TellsHosts (H.hmac hmac.now) name.now (hashed_mark ++ hashed.now) result }
 {
@@ -63,19 +96,19 @@ fn are_hash_of<H: HostHasher>(hashed: &[u8], name: &str, hmac: &H) -> Option<boo
     }
 }
 
-fn begins_with_bar(text: &[u8]) -> bool
+pub(crate) fn begins_with_bar(text: &[u8]) -> bool
     ensures { IsTrue result ↔ (slice_index text.now 0 ≡ bar) }
 {
     matches!(text, [b'|', ..])
 }
 
 /// Whether the patterns are for the name.
+#[tactic(auto, using(crate::proofs::NamedHosts::begin_alike))]
 fn are_patterns_for(text: &[u8], name: &str) -> bool
     requires { 0 < length text.now }
     ensures { IsTrue result ↔ AreForName name.now (patterns text.now) }
 {
-    let (first, _) = split_first_pattern(text);
-    !begins_with_bar(first)
+    !begins_with_bar(text)
         && bytes_match_pattern_list(name.as_bytes(), text, LetterCase::Insensitive)
 }
 

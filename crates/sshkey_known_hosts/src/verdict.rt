@@ -1,15 +1,17 @@
 //! What a text of known_hosts says of a host's key.
 
-ghost use Rattle.std.specs.Prelude.{◌≡◌, ◌<◌, ◌↔◌, ◌∷◌, [], IsTrue, IfOk, IfErr, length};
+ghost use Rattle.std.specs.Prelude.{◌≡◌, ◌<◌, ◌↔◌, ◌∷◌, [], ℕ, List, IsTrue, IfOk, IfErr, length, option_map};
 ghost use Rattle.sshkey_base.specs.declared.error.Error.TheVariants as wide;
 ghost use Rattle.sshkey_entries.specs.Fields.{filled_lines};
 ghost use Rattle.sshkey_entries.specs.HostNames.{known_name};
 ghost use Rattle.sshkey_entries.specs.HostVerdicts.{IsForOthers};
 ghost use Rattle.sshkey_keys.specs.Keys.{key_of};
+ghost use Rattle.sshkey_known_hosts.specs.HostEntries.{marker_of};
+ghost use Rattle.sshkey_known_hosts.specs.HostLines.{HasNamedHosts};
 ghost use Rattle.sshkey_known_hosts.specs.Verdicts.{IsVerdict, SayTogether, marked_verdict_of, max_severity_of};
 
 use crate::host_hasher::HostHasher;
-use crate::host_line::{HostLine, read_host_line};
+use crate::host_line::{HostCut, HostLine, cut_hosts, read_fields};
 use crate::host_name::known_name;
 use crate::marker::Marker;
 use sshkey_base::Result;
@@ -68,6 +70,31 @@ fn marked_verdict(marker: Option<Marker>, same: bool) -> Verdict
     }
 }
 
+/// What a line says of a key of the host that its hosts name, by its key's fields. Lines for others
+/// do not pay for what it holds.
+#[inline(never)]
+fn fields_verdict(
+    alloc: Global,
+    marker: Option<Marker>,
+    fields: &[u8],
+    key: &KeyData,
+) -> Result<Verdict>
+    ensures answer { IfOk result (λ v. (hmac : List ℕ → List ℕ → List ℕ) (name line : List ℕ) →
+        HasNamedHosts hmac name line (option_map marker_of marker) fields.now →
+        IsVerdict hmac name (key_of key.now) (line ∷ []) v) }
+    ensures memory { IfErr result (λ e. e ≡ wide.Memory) }
+{
+    match read_fields(alloc, marker, fields)? {
+        HostLine::ForOthers => Ok(Verdict::Unknown),
+        HostLine::Entry { marker, public_key } => {
+            let same = public_key.key_data().is(key);
+            Ok(marked_verdict(marker, same))
+        }
+        HostLine::OtherKey { marker } => Ok(marked_verdict(marker, false)),
+        HostLine::Unreadable => Ok(Verdict::Unreadable),
+    }
+}
+
 /// What a line says of a key of that name. Takes no memory for a line that is for others.
 fn line_verdict<H: HostHasher>(
     alloc: Global,
@@ -81,14 +108,10 @@ fn line_verdict<H: HostHasher>(
     ensures memory { IfErr result (λ e. e ≡ wide.Memory) }
     ensures asks { IfErr result (λ _. IsForOthers (H.hmac hmac.now) name.now line.now → ⊥) }
 {
-    match read_host_line(alloc, line, name, hmac)? {
-        HostLine::ForOthers => Ok(Verdict::Unknown),
-        HostLine::Entry { marker, public_key } => {
-            let same = public_key.key_data().is(key);
-            Ok(marked_verdict(marker, same))
-        }
-        HostLine::OtherKey { marker } => Ok(marked_verdict(marker, false)),
-        HostLine::Unreadable => Ok(Verdict::Unreadable),
+    match cut_hosts(line, name, hmac) {
+        HostCut::ForOthers => Ok(Verdict::Unknown),
+        HostCut::Named(marker, fields) => fields_verdict(alloc, marker, fields, key),
+        HostCut::Unreadable => Ok(Verdict::Unreadable),
     }
 }
 
@@ -107,9 +130,10 @@ pub(crate) fn has_lines(text: &[u8]) -> bool
 /// `Unreadable`, since it could be a revocation: only where hosts stand in it that are not for this
 /// host it is passed over, and never where a zero byte stands in it, at which ssh takes the hosts
 /// to end. An entry with a key of a kind that is none here, as the `ssh-mldsa44-ed25519` of later
-/// OpenSSH, is one of another key (`sshkey_entries::are_other_key_fields`). Then an entry for the
-/// host with this key makes it `Trusted`, or else one with another key `Changed`, and else it is
-/// `Unknown`. Of authorities nothing is said here.
+/// OpenSSH or the XMSS of earlier, is one of another key (`sshkey_entries::are_other_key_fields`,
+/// `sshkey_entries::bytes_are_former_key_fields`). Then an entry for the host with this key makes it
+/// `Trusted`, or else one with another key `Changed`, and else it is `Unknown`. Of authorities
+/// nothing is said here.
 ///
 /// Of the bytes of a line nothing is asked: as for ssh, a comment decides nothing, whatever its
 /// encoding.

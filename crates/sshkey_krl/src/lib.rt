@@ -2,6 +2,12 @@
 //!
 //! `KrlRef` reads a list in place and says which keys and certificates it revokes. `Krl` owns its
 //! bytes, and adds what is to be revoked. Both reject the signatures of a list.
+//!
+//! # What is proved, tested and trusted
+//!
+//! It is proved which lists are read, what each revokes, what a list that grows spells, and that
+//! reading and asking take no memory. `checks/revoked` compares lists of `ssh-keygen -k`, copies
+//! with changed bytes, and lists made here with what `ssh-keygen -Q` says.
 #![tactic(auto)]
 
 mod asked_key;

@@ -20,7 +20,7 @@ use Rattle.sshkey_model.specs.Keys.{Key, SpellsKey}
 use Rattle.sshkey_model.specs.Names.{named}
 use Rattle.sshkey_model.specs.Parts.{flat}
 use Rattle.sshkey_model.specs.Texts.{string}
-use Rattle.sshkey_patterns.proofs.Deciding.{decides_all}
+use Rattle.sshkey_matching.proofs.PatternTests.{decides_all}
 use Rattle.sshkey_public.specs.Lines.{IsWordOf}
 use Rattle.sshkey_entries.proofs.KeyTexts.{other_name_text, other_word_text}
 use Rattle.sshkey_entries.proofs.OtherKeys.{no_key_begins}

@@ -5,7 +5,7 @@ use Rattle.std.proofs.lemmas.List.Splits.{slice_split_at, slice_split_none}
 use Rattle.sshkey_entries.specs.ByteLines.{is_line_end}
 use Rattle.sshkey_entries.specs.Fields.{is_filled, without_blanks}
 use Rattle.sshkey_entries.specs.Fronts.{without_front}
-use Rattle.sshkey_patterns.proofs.PatternLists.{none_there}
+use Rattle.sshkey_matching.proofs.PatternLists.{none_there}
 use Rattle.sshkey_entries.proofs.ByteLines.{at_end}
 use Rattle.sshkey_revoked_keys.specs.RevokedLines.{is_line_feed, revoked_lines}
 

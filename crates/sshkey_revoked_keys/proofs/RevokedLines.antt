@@ -1,26 +1,25 @@
 -- What a line is read as.
 use Rattle.std.proofs.Common.{◌≡◌, ℕ, ◌<◌, List, [], ◌∷◌, length, Bool, Result, Ok, Err, Vec, inl, inr, sym, ap, subst, refl, ◌∙◌, arith}
 use Rattle.std.specs.Str.{IsUtf8}
-use Rattle.std.specs.Str.Lines.{strip_carriage_return}
 use Rattle.sshkey_base.specs.declared.encoding.Error.TheVariants.{CharacterEncoding, Length}
 use Rattle.sshkey_base.specs.declared.error.Error.{Error}
 use Rattle.sshkey_base.specs.declared.error.Error.TheVariants.{Encoding}
 use Rattle.sshkey_entries.specs.Answers.{AsksEntry, ReadsEntry, RefusesFor}
 use Rattle.sshkey_entries.specs.Cuts.{CutsField}
-use Rattle.sshkey_entries.specs.Fields.{without_blanks}
+use Rattle.sshkey_entries.specs.Fields.{CutsWord, without_blanks}
 use Rattle.sshkey_entries.proofs.FieldKeys.{fields_are}
-use Rattle.sshkey_entries.proofs.Fields.{same_field}
+use Rattle.sshkey_entries.proofs.Fields.{same_cut, same_field}
 use Rattle.sshkey_revoked_keys.proofs.NamedWords.{no_key, one_said, said_texts}
 use Rattle.sshkey_revoked_keys.specs.NamedWords.{HasNamedFault, NeedsKey, SaysKey}
 use Rattle.sshkey_revoked_keys.specs.RevokedLines.{BeginsWithWord, HasLineFault, NeedsEntry, RevokesKey, is_certified_name}
 
-pub begins : (line name after skipped field rest word : List ℕ) → CutsField line name after → skipped ≡ without_blanks after → CutsField skipped field rest → word ≡ strip_carriage_return field → BeginsWithWord line name word
-begins line name after skipped field rest word first skips second is = record { field = field; rest = rest; fields = fields_are line name after skipped field rest first skips second; word_is = is }
+pub begins : (line name after skipped word rest : List ℕ) → CutsField line name after → skipped ≡ without_blanks after → CutsWord skipped word rest → BeginsWithWord line name word
+begins line name after skipped word rest first skips second = record { rest = rest; fields = fields_are line name after skipped word rest first skips second }
 
 -- the same where the name and the word were read as texts
-pub begins_as : (line name after skipped field rest word n w : List ℕ) → CutsField line name after → skipped ≡ without_blanks after → CutsField skipped field rest → word ≡ strip_carriage_return field → n ≡ name → w ≡ word → BeginsWithWord line n w
-begins_as line name after skipped field rest word n w first skips second is same_name same_word =
-    subst (λ (t : List ℕ). BeginsWithWord line t w) (sym same_name) (begins line name after skipped field rest w first skips second (same_word ∙ is))
+pub begins_as : (line name after skipped word rest n w : List ℕ) → CutsField line name after → skipped ≡ without_blanks after → CutsWord skipped word rest → n ≡ name → w ≡ word → BeginsWithWord line n w
+begins_as line name after skipped word rest n w first skips second same_name same_word =
+    subst (λ (t : List ℕ). BeginsWithWord line t w) (sym same_name) (begins line name after skipped w rest first skips (subst (λ (v : List ℕ). CutsWord skipped v rest) (sym same_word) second))
 
 pub some_text : (word w : List ℕ) → w ≡ word → 0 < length word → 0 < length w
 some_text word w same some = omega (arith, some, ap length same)
@@ -29,8 +28,7 @@ some_text word w same some = omega (arith, some, ap length same)
 one_begin : (line n w m v : List ℕ) → BeginsWithWord line n w → BeginsWithWord line m v → (n ≡ m) × (w ≡ v)
 one_begin line n w m v a b =
     let names = same_field n m a.fields.after b.fields.after a.fields.first.one_word b.fields.first.one_word a.fields.first.ends b.fields.first.ends (sym a.fields.first.is ∙ b.fields.first.is) in
-    let words = same_field a.field b.field a.rest b.rest a.fields.second.one_word b.fields.second.one_word a.fields.second.ends b.fields.second.ends (sym a.fields.second.is ∙ ap without_blanks names.1 ∙ b.fields.second.is) in
-    (names.0, a.word_is ∙ ap strip_carriage_return words.0 ∙ sym b.word_is)
+    (names.0, (same_cut (without_blanks b.fields.after) w v a.rest b.rest (subst (λ (t : List ℕ). CutsWord (without_blanks t) w a.rest) names.1 a.fields.second) b.fields.second).0)
 
 module _ (line name word : List ℕ) (begin : BeginsWithWord line name word) where
   said_here : (key : List ℕ) → RevokesKey line key → SaysKey (is_certified_name name) name word key

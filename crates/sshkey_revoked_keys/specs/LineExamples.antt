@@ -2,7 +2,6 @@
 use Rattle.std.specs.Prelude.{◌≡◌, ℕ, List, [], ◌∷◌, ◌++◌, length, true, false, codes, replicate}
 use Rattle.base64.specs.Engines.{standard}
 use Rattle.base64.specs.GeneralPurpose.{IsBytes, encode_of}
-use Rattle.std.specs.Str.Lines.{strip_carriage_return}
 use Rattle.sshkey_model.specs.CertificateExamples.{openssh_certificate}
 use Rattle.sshkey_model.specs.Certificates.{Certificate}
 use Rattle.sshkey_model.specs.HexText.{hex}
@@ -24,10 +23,6 @@ Lines = (revoked_lines [] ≡ [])
 abbrev pub CertificateNames : Type 0
 CertificateNames = (is_certified_name (codes "ssh-ed25519-cert-v01@openssh.com") ≡ true) × (is_certified_name (codes "ssh-rsa-cert-v01@openssh.com") ≡ true) × (is_certified_name (codes "sk-ssh-ed25519-cert-v01@openssh.com") ≡ true)
     × (is_certified_name (codes "ssh-ed25519") ≡ false) × (is_certified_name (codes "sk-ssh-ed25519@openssh.com") ≡ false) × (is_certified_name (codes "ssh-ed25519-cert-v00@openssh.com") ≡ false) × (is_certified_name [] ≡ false)
-
--- One carriage return at the end is not part of a word.
-abbrev pub Returns : Type 0
-Returns = (strip_carriage_return (codes "AAAA\r") ≡ codes "AAAA") × (strip_carriage_return (codes "AAAA\r\r") ≡ codes "AAAA\r") × (strip_carriage_return (codes "AA\rAA") ≡ codes "AA\rAA")
 
 -- A list begins with the eight bytes of PROTOCOL.krl.
 abbrev pub Beginnings : Type 0

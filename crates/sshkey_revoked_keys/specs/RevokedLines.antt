@@ -3,7 +3,6 @@
 use Rattle.std.specs.Prelude.{◌≡◌, ◌⊎◌, ◌<◌, ◌==◌, ℕ, List, [], length, map, filter, Bool, is_ok}
 use Rattle.std.specs.List.{slice_split}
 use Rattle.std.specs.Str.{IsUtf8}
-use Rattle.std.specs.Str.Lines.{strip_carriage_return}
 use Rattle.sshkey_base.specs.declared.encoding.Error.TheVariants.{CharacterEncoding, Length}
 use Rattle.sshkey_base.specs.declared.error.Error.{Error}
 use Rattle.sshkey_base.specs.declared.error.Error.TheVariants.{Encoding}
@@ -20,13 +19,10 @@ is_line_feed c = c == 10
 unfoldable pub revoked_lines : List ℕ → List (List ℕ)
 revoked_lines text = filter is_filled (map without_blanks (slice_split is_line_feed text))
 
--- The line begins with the name and the word, with blanks between. A carriage return at the end of
--- its second field is not part of the word.
+-- The line begins with the name and the word, with blanks between.
 pub record BeginsWithWord (line name word : List ℕ) : Type 0 where
-  pub field : List ℕ
   pub rest : List ℕ
-  pub fields : AreFields line name field rest
-  pub word_is : word ≡ strip_carriage_return field
+  pub fields : AreFields line name word rest
 
 -- whether it is the name of an algorithm in certificates
 abbrev pub is_certified_name : List ℕ → Bool

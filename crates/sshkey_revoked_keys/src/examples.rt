@@ -1,6 +1,6 @@
 //! Worked examples of revocation files, on both sides of each edge.
 
-ghost use Rattle.sshkey_revoked_keys.specs.LineExamples.{Beginnings, CertificateNames, LaterKeys, Lines, ReadKeys, Returns};
+ghost use Rattle.sshkey_revoked_keys.specs.LineExamples.{Beginnings, CertificateNames, LaterKeys, Lines, ReadKeys};
 
 /// Lines of a text.
 pub fn lines()
@@ -10,11 +10,6 @@ pub fn lines()
 /// Names of certificates.
 pub fn certificate_names()
     ensures { CertificateNames }
-{}
-
-/// Carriage returns.
-pub fn returns()
-    ensures { Returns }
 {}
 
 /// What a list begins with.

@@ -21,7 +21,7 @@ use openssh_limits::{
 };
 use sshkey_base::{Algorithm, Error, Result, encode_vec, encoding};
 use sshkey_cert::Certificate;
-use sshkey_entries::bytes::{first_line_end, is_filled, skip_blanks, split_blank, without_return};
+use sshkey_entries::bytes::{first_line_end, is_filled, skip_blanks, split_blank, split_word};
 use sshkey_keys::KeyData;
 use std::alloc::Global;
 use std::str;
@@ -66,8 +66,7 @@ fn read_line(alloc: Global, line: &[u8]) -> Result<Vec<u8>>
     ensures asks { AsksEntry NeedsEntry line.now result }
 {
     let (name, after) = split_blank(line);
-    let (word, _) = split_blank(skip_blanks(after));
-    let word = without_return(word);
+    let (word, _) = split_word(skip_blanks(after));
     if word.is_empty() {
         return Err(Error::Encoding(encoding::Error::Length));
     }

@@ -20,7 +20,7 @@ use std::alloc::Global;
 /// is 0 or 1.
 ///
 /// ```rust
-/// // as in crates/deploy_keys/src/signer.rt
+/// // as in crates/sshkey_examples/src/signer.rt
 /// let signature = SshSig::from_bytes(alloc, signature)?;
 /// let key = entry.public_key();
 /// answer_of(key.verify(alloc, namespace, content, signature, verifier))

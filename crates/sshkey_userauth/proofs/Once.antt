@@ -26,20 +26,3 @@ module _ (r : UserauthRequest) (required : Requirements) (g : Signature) where
       let held = one_found is.form other.form is.judged other.judged (Ok other.key) other.held in
       let key : is.key ≡ other.key = cc (is.held, held) in
       is.question ∙ ap (λ (k : Key). question k (flat (userauth_request r)) g) key ∙ sym other.question
-
-  pub asked_keyed : (q : Option Question) (fault : Fault) → IsAsked r required g q → LacksKey r required g fault → ⊥
-  asked_keyed q fault is lacks =
-      let held = one_found is.form lacks.form is.judged lacks.judged (Err fault) lacks.none in
-      cc (is.held, held)
-
-  pub one_lack : (fault other : Fault) → LacksKey r required g fault → LacksKey r required g other → fault ≡ other
-  one_lack fault other lacks also =
-      let none = one_found lacks.form also.form lacks.judged also.judged (Err other) also.none in
-      cc (lacks.none, none)
-
-  pub lacks_key : (e : Error) → HasNoKey r required g (NoKey e) → (fault : Fault) × LacksKey r required g fault × (cause e ≡ Faulty fault)
-  lacks_key e has = go (key_from has.form r.public_key) refl has.none
-    where
-      go : (found : Result Key Fault) → key_from has.form r.public_key ≡ found → IsErrAnd found (λ fault. cause e ≡ Faulty fault) → (fault : Fault) × LacksKey r required g fault × (cause e ≡ Faulty fault)
-      go (Ok key) is none = absurd none
-      go (Err fault) is none = (fault, record { form = has.form; judged = has.judged; none = is }, none)

@@ -42,7 +42,7 @@ impl UserauthRequest<'_> {
     /// `self` is what the server expects: its own session identifier, the user that the grant is
     /// for, and the key or the certificate that the grant came from. Whoever has no signed bytes
     /// takes those of `to_bytes`. An RSA signature is asked about as the client made it; sshd(8)
-    /// verifies it with the zeros in front that were left out, as `sshkey_padding::Padding` does.
+    /// verifies it with the zeros in front that were left out, as `openssh_limits::Padding` does.
     ///
     /// Fails with the first of these: `SignedBytes` exactly if `signed` are not the bytes of the
     /// request; `Service`; `Algorithm` if the request's name is not that of the signature's

@@ -1,11 +1,11 @@
 -- A line of a key has one of the marks of the key's own part.
-use Rattle.std.proofs.Common.{◌≡◌, ◌∙◌, ◌⊎◌, ◌+◌, ◌-◌, ◌%◌, ◌<◌, ◌≤◌, ℕ, List, [], ◌∷◌, ◌++◌, Bool, true, false, not, filter, cond, ap, append-nil, append_assoc, arith, drop, get_or, inl, inr, length, refl, replicate, subst, sym, take, take-append-drop, tests}
+use Rattle.std.proofs.Common.{◌≡◌, ◌∙◌, ◌⊎◌, ◌+◌, ◌-◌, ◌%◌, ◌<◌, ◌≤◌, ℕ, List, [], ◌∷◌, ◌++◌, Bool, true, false, not, filter, cond, ap, append-nil, append_assoc, arith, drop, get_or, inl, inr, length, refl, replicate, subst, sym, take, take-append-drop}
 use Rattle.std.proofs.lemmas.Bool.{cases_lt}
 use Rattle.std.proofs.lemmas.List.{drop-append-le, get_or-append-add, get_or_append_left, length-append, length-drop, length-take-le}
 use Rattle.std.proofs.lemmas.List.Elements.{All-head, All-tail}
 use Rattle.std.proofs.lemmas.List.Folds.{drop_split}
 use Rattle.std.proofs.Math.Seq.{drop-append-add, get_or-append_seam}
-use Rattle.std.specs.List.{All, before_first, position_or_len}
+use Rattle.std.specs.List.{All, before_first, position_or_len, suffix_len}
 use Rattle.std.specs.Int.{to_be_bytes, w32}
 use Rattle.std.specs.Prelude.{slice_index, slice_range}
 use Rattle.base64.proofs.EngineFacts.{encode_of-append}
@@ -13,9 +13,10 @@ use Rattle.base64.proofs.RoundTrip.{length-encode_symbols}
 use Rattle.base64.specs.Rfc4648.{encode_symbols, padding_len}
 use Rattle.base64.specs.Engines.{standard}
 use Rattle.base64.specs.GeneralPurpose.{encode_of}
+use Rattle.sshkey_entries.proofs.Fields.{whites_are}
 use Rattle.sshkey_entries.proofs.Fronts.{nothing_stays, skipped, stays}
 use Rattle.sshkey_entries.specs.AuthorizedKeys.{AuthorizedKey}
-use Rattle.sshkey_entries.specs.Fields.{AreKeyFields, without_blanks}
+use Rattle.sshkey_entries.specs.Fields.{AreKeyFields, CutsWord, is_white, without_blanks}
 use Rattle.sshkey_entries.specs.Fronts.{without_front}
 use Rattle.sshkey_entries.specs.OpenSshLines.{IsAuthorizedLine}
 use Rattle.sshkey_entries.specs.OptionEnds.{is_blank}
@@ -26,7 +27,7 @@ use Rattle.sshkey_model.specs.Lines.{key_name}
 use Rattle.sshkey_model.specs.Names.{Nistp256, algorithm, curve}
 use Rattle.sshkey_model.specs.Parts.{Parts, ◌&◌, flat}
 use Rattle.sshkey_model.specs.Texts.{string}
-use Rattle.user_keys.specs.Spellings.{Follow, MaySpell, StandIn, is_white, mark, own_part}
+use Rattle.user_keys.specs.Spellings.{Follow, MaySpell, StandIn, mark, own_part}
 
 -- ---- a part of a text
 
@@ -121,9 +122,6 @@ module _ (part : List ℕ) (long : 17 ≤ length part) (front back : List ℕ) w
 abbrev IsPlain : ℕ → Type 0
 IsPlain c = is_white c ≡ false
 
-whites_are : (c : ℕ) → is_white c ≡ true → (c ≡ 0x0b) ⊎ (c ≡ 0x0c) ⊎ (c ≡ 0x0d)
-whites_are c is = grind (arith, tests)
-
 plain : (c : ℕ) (b : Bool) → is_white c ≡ b → IsDark c → IsPlain c
 plain c false e dark = e
 plain c true e dark = absurd (elim (whites_are c e) [
@@ -184,8 +182,14 @@ front_of is (c ∷ text) = go (is c) refl (front_of is text)
 has_after : (word text : List ℕ) → HasPart word (without_blanks text) → HasPart word text
 has_after word text h = let front = front_of is_blank text in subst (HasPart word) (sym front.1) (after word front.0 (without_blanks text) h)
 
+-- without the white space behind it
+word_in : (text word rest : List ℕ) → CutsWord text word rest → HasPart word text
+word_in text word rest c =
+    let size = length c.field - suffix_len is_white c.field in
+    subst (HasPart word) (sym c.is) (before word c.field rest ([], drop size c.field, sym (take-append-drop size c.field) ∙ ap (λ (l : List ℕ). l ++ drop size c.field) (sym c.word_is)))
+
 fields_have : (text : List ℕ) (k : Key) (comment : List ℕ) (f : AreKeyFields text k comment) → HasPart (encode_of standard f.blob) text
-fields_have text k comment f = subst (HasPart (encode_of standard f.blob)) (sym f.is) (after (encode_of standard f.blob) (key_name k) f.after_name (has_after (encode_of standard f.blob) f.after_name ([], f.after_key, f.word)))
+fields_have text k comment f = subst (HasPart (encode_of standard f.blob)) (sym f.is) (after (encode_of standard f.blob) (key_name k) f.after_name (has_after (encode_of standard f.blob) f.after_name (word_in (without_blanks f.after_name) (encode_of standard f.blob) f.after_key f.word)))
 
 fields_spell : (text : List ℕ) (k : Key) (comment : List ℕ) → AreKeyFields text k comment → 17 ≤ length (own_part k) → (line : List ℕ) → ((word : List ℕ) → HasPart word text → HasPart word line) → MaySpell (own_part k) line
 fields_spell text k comment f long line lies = marks (own_part k) long line f.blob (blob_has k f.blob f.spelled) (lies (encode_of standard f.blob) (fields_have text k comment f))

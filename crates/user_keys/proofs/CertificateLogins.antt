@@ -23,11 +23,11 @@ use Rattle.sshkey_model.specs.Keys.{Key}
 use Rattle.sshkey_model.specs.Names.{Sha256}
 use Rattle.sshkey_model.specs.Parts.{flat}
 use Rattle.user_keys.specs.Answers.{IsWhyNoLine}
-use Rattle.user_keys.specs.CertificateLogins.{AdmitsBy, BindsTogether, CertificateLogin, FindsLine, IsAsStrictBy, IsLineFor, IsRefusalOf, IsWhyUnread, by, client_of, policy_login}
+use Rattle.user_keys.specs.CertificateLogins.{AdmitsBy, BindsTogether, CertificateLogin, FindsLine, IsAsStrictBy, IsLineFor, IsRefusalOf, IsWhyUnread, client_of, policy_login}
 use Rattle.user_keys.specs.Certificates.{judged_by, merged, merged_with, name_for}
 use Rattle.user_keys.specs.FirstLines.{LetsFirst, TakesAsTold, TakesFirst}
 use Rattle.user_keys.specs.Spellings.{MaySpell, own_part}
-use Rattle.user_keys.specs.UserLogins.{GrantsFirst, Lets, MayLet}
+use Rattle.user_keys.specs.UserLogins.{GrantsFirst, Lets, MayLet, OfCertificate}
 use Rattle.user_keys.specs.declared.answer.Judgement.{Judgement}
 use Rattle.user_keys.specs.declared.answer.Judgement.TheVariants as judgement
 use Rattle.user_keys.specs.declared.grant.NamedLine.{NamedLine}
@@ -65,8 +65,8 @@ own k f is = let hash = is.by in let digest = is.digest in rw (hash, digest) ref
 
 -- ---- what the policy is asked
 
-pub asked : (l : CertificateLogin) (authorities : List model.Fingerprint) (name : List ℕ) (client : Client) → client ≡ client_of l.login.client → record { accepts = l.accepts; revokes = l.revokes; authorities = authorities; time = l.login.time; user = name; offered = l.login.offered; blob = l.blob; least_rsa_bits = l.login.least_rsa_bits; client = client } ≡ policy_login l authorities name
-asked l authorities name client same = ap (λ (x : Client). record { accepts = l.accepts; revokes = l.revokes; authorities = authorities; time = l.login.time; user = name; offered = l.login.offered; blob = l.blob; least_rsa_bits = l.login.least_rsa_bits; client = x }) same
+pub asked : (l : CertificateLogin) (authorities : List model.Fingerprint) (name : List ℕ) (client : Client) → client ≡ client_of l.login.client → record { accepts = l.accepts; revokes = l.revokes; authorities = authorities; time = l.login.time; user = name; blob = l.blob; least_rsa_bits = l.login.least_rsa_bits; client = client } ≡ policy_login l authorities name
+asked l authorities name client same = ap (λ (x : Client). record { accepts = l.accepts; revokes = l.revokes; authorities = authorities; time = l.login.time; user = name; blob = l.blob; least_rsa_bits = l.login.least_rsa_bits; client = x }) same
 
 -- ---- what is merged
 
@@ -152,16 +152,16 @@ named_if_allowed false false judgement.Unclear e = absurd cc
 named_if_allowed false false (judgement.Refuses r) e = absurd cc
 
 module _ (l : CertificateLogin) (c : Certificate) where
-  pub no_line : (r : UserRefusal) → IsWhyNoLine (by l.login c) r → (n : ℕ) (t : Terms) (name : List ℕ) → IsLineFor l.login c n t name → ⊥
-  no_line refusal.NotListed why n t name is = nothing_lets (Lets (by l.login c)) (MayLet (by l.login c)) l.login.lines why.0 n t is.0
-  no_line (refusal.NotAllowed m reason) why n t name is = nothing_lets (Lets (by l.login c)) (MayLet (by l.login c)) l.login.lines why.0 n t is.0
-  no_line (refusal.Unclear m) why n t name is = none_lets (Lets (by l.login c)) (MayLet (by l.login c)) l.login.lines why.0 m why.1 why.2 n t is.0
+  pub no_line : (r : UserRefusal) → IsWhyNoLine l.login (OfCertificate c) r → (n : ℕ) (t : Terms) (name : List ℕ) → IsLineFor l.login c n t name → ⊥
+  no_line refusal.NotListed why n t name is = nothing_lets (Lets l.login (OfCertificate c)) (MayLet l.login (OfCertificate c)) l.login.lines why.0 n t is.0
+  no_line (refusal.NotAllowed m reason) why n t name is = nothing_lets (Lets l.login (OfCertificate c)) (MayLet l.login (OfCertificate c)) l.login.lines why.0 n t is.0
+  no_line (refusal.Unclear m) why n t name is = none_lets (Lets l.login (OfCertificate c)) (MayLet l.login (OfCertificate c)) l.login.lines why.0 m why.1 why.2 n t is.0
   no_line refusal.UnacceptedKey why n t name is = why
   no_line refusal.Revoked why n t name is = why
   no_line (refusal.Certificate p) why n t name is = why
   no_line refusal.Memory why n t name is = why
 
-  module _ (first : UserGrant) (granted : GrantsFirst (by l.login c) first) where
+  module _ (first : UserGrant) (granted : GrantsFirst l.login (OfCertificate c) first) where
     pub no_name : name_for c l.login.user (terms_of first.terms) ≡ None → ⊥
     no_name none =
         let yes : is_some (name_for c l.login.user (terms_of first.terms)) ≡ true = named_if_allowed _ _ granted.lets.allowed.0 granted.lets.allowed.2 in
@@ -171,7 +171,7 @@ module _ (l : CertificateLogin) (c : Certificate) where
     -- a grant of the whole is by that line, and for that name
     pub one_name : (name : List ℕ) → name_for c l.login.user (terms_of first.terms) ≡ Some name → (n : ℕ) (t : Terms) (other : List ℕ) → IsLineFor l.login c n t other → other ≡ name
     one_name name named n t other is =
-        let terms : t ≡ terms_of first.terms = one_terms (Lets (by l.login c)) (MayLet (by l.login c)) l.login.lines first.line n (terms_of first.terms) t granted is.0 in
+        let terms : t ≡ terms_of first.terms = one_terms (Lets l.login (OfCertificate c)) (MayLet l.login (OfCertificate c)) l.login.lines first.line n (terms_of first.terms) t granted is.0 in
         let both : Some other ≡ Some name = sym is.1 ∙ ap (λ (u : Terms). name_for c l.login.user u) terms ∙ named in
         cc
 

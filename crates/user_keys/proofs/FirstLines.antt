@@ -7,11 +7,12 @@ use Rattle.std.specs.List.{Any}
 use Rattle.std.specs.Prelude.{Contains, IsErrAnd, IsSome, option_map}
 use Rattle.openssh_limits.specs.Keys.{openssh_accepts_key}
 use Rattle.sshkey_krl.specs.Revocations.{is_key_revoked}
+use Rattle.sshkey_model.specs.Keys.{Key}
 use Rattle.login_terms.specs.Terms.{Terms}
 use Rattle.user_keys.specs.Answers.{AsksOfLines, GrantsExactly, IsWhyNoLine, SaysOf, first_refused, refusal_for}
 use Rattle.user_keys.specs.Spellings.{MaySpell, own_part}
 use Rattle.user_keys.specs.FirstLines.{EndsBy, IsFirst, LetsFirst, TakesAsTold, TakesFirst}
-use Rattle.user_keys.specs.UserLogins.{Admits, Ends, GrantsFirst, IsListedBy, RefusesFor, UserLogin, listed_key}
+use Rattle.user_keys.specs.UserLogins.{Admits, Credential, Ends, GrantsFirst, IsListedBy, OfKey, RefusesFor, UserLogin, listed_key}
 use Rattle.user_keys.specs.declared.answer.LineVerdict.TheVariants as verdict
 use Rattle.user_keys.specs.declared.grant.UserGrant.{UserGrant}
 use Rattle.user_keys.specs.declared.refusal.Reason.{Reason}
@@ -55,9 +56,9 @@ pub out_of_memory : (P : UserGrant → Type 0) (r : Result UserGrant UserRefusal
 out_of_memory P (Ok g) is = absurd is
 out_of_memory P (Err e) is = λ other. absurd (other is)
 
-pub asked : (login : UserLogin) (r : Result UserGrant UserRefusal) → Any (MaySpell (own_part (listed_key login))) login.lines → AsksOfLines login r
-asked login (Ok g) some = tt
-asked login (Err e) some = λ memory. some
+pub asked : (login : UserLogin) (by : Credential) (r : Result UserGrant UserRefusal) → Any (MaySpell (own_part (listed_key by))) login.lines → AsksOfLines login by r
+asked login by (Ok g) some = tt
+asked login by (Err e) some = λ memory. some
 
 -- ---- the first
 
@@ -132,35 +133,35 @@ module _ (Lets : List ℕ → Terms → Type 0) (MayLet : List ℕ → Type 0) (
   pub one_terms : (n m : ℕ) (t u : Terms) (is : LetsFirst Lets MayLet all n t) (too : LetsFirst Lets MayLet all m u) → u ≡ t
   one_terms n m t u is too = is.alone u (subst (λ (l : List ℕ). Lets l u) (one_line n m t u is too) too.lets)
 
-module _ (login : UserLogin) where
-  pub granted : (g : UserGrant) (line : List ℕ) → IsFirst (Ends login) login.lines line g.line → SaysOf login line (verdict.Lets g.terms) → GrantsFirst login g
+module _ (login : UserLogin) (by : Credential) where
+  pub granted : (g : UserGrant) (line : List ℕ) → IsFirst (Ends login by) login.lines line g.line → SaysOf login by line (verdict.Lets g.terms) → GrantsFirst login by g
   granted g line first says = record { line = line; first = first; lets = says.0; alone = says.1; told = says.2 }
 
   -- ---- the line that refuses
 
   -- of some lines the first that is for the key refuses it for that
   abbrev pub RefusedBy : List (List ℕ) → Option (ℕ × Reason) → Type 0
-  RefusedBy before None = ¬ Any (IsListedBy login) before
-  RefusedBy before (Some x) = (line : List ℕ) × IsFirst (IsListedBy login) before line x.0 × RefusesFor login line x.1
+  RefusedBy before None = ¬ Any (IsListedBy by) before
+  RefusedBy before (Some x) = (line : List ℕ) × IsFirst (IsListedBy by) before line x.0 × RefusesFor login by line x.1
 
-  pub passed : (before : List (List ℕ)) (line : List ℕ) (refused : Option (ℕ × Reason)) → RefusedBy before refused → (IsListedBy login line → ⊥) → RefusedBy (before ++ (line ∷ [])) refused
-  passed before line None none not = none_more (IsListedBy login) before line none not
-  passed before line (Some x) is not = (is.0, more_first (IsListedBy login) before (line ∷ []) is.0 x.0 is.1, is.2)
+  pub passed : (before : List (List ℕ)) (line : List ℕ) (refused : Option (ℕ × Reason)) → RefusedBy before refused → (IsListedBy by line → ⊥) → RefusedBy (before ++ (line ∷ [])) refused
+  passed before line None none not = none_more (IsListedBy by) before line none not
+  passed before line (Some x) is not = (is.0, more_first (IsListedBy by) before (line ∷ []) is.0 x.0 is.1, is.2)
 
-  pub refused_also : (before : List (List ℕ)) (line : List ℕ) (n : ℕ) (r : Reason) (refused : Option (ℕ × Reason)) → n ≡ length before + 1 → RefusedBy before refused → RefusesFor login line r → RefusedBy (before ++ (line ∷ [])) (first_refused refused n r)
+  pub refused_also : (before : List (List ℕ)) (line : List ℕ) (n : ℕ) (r : Reason) (refused : Option (ℕ × Reason)) → n ≡ length before + 1 → RefusedBy before refused → RefusesFor login by line r → RefusedBy (before ++ (line ∷ [])) (first_refused refused n r)
   refused_also before line n r None counted none refuses = (
     line,
     record { before = before; after = []; is = refl; none = none; holds = (refuses.terms, refuses.own); counted = counted },
     refuses,
   )
-  refused_also before line n r (Some x) counted is refuses = (is.0, more_first (IsListedBy login) before (line ∷ []) is.0 x.0 is.1, is.2)
+  refused_also before line n r (Some x) counted is refuses = (is.0, more_first (IsListedBy by) before (line ∷ []) is.0 x.0 is.1, is.2)
 
-  pub why : (refused : Option (ℕ × Reason)) → (Any (Ends login) login.lines → ⊥) → RefusedBy login.lines refused → IsWhyNoLine login (refusal_for refused)
+  pub why : (refused : Option (ℕ × Reason)) → (Any (Ends login by) login.lines → ⊥) → RefusedBy login.lines refused → IsWhyNoLine login by (refusal_for refused)
   why None none not = (none, not)
   why (Some x) none is = (none, is)
 
 -- ---- the whole
 
-pub admitted : (login : UserLogin) (revokes_key : List ℕ → Bool) → IsTrue (openssh_accepts_key login.least_rsa_bits login.offered) → is_key_revoked revokes_key login.offered ≡ false → (r : Result UserGrant UserRefusal) → IfOk r (λ g. g.certified ≡ None) → GrantsExactly (GrantsFirst login) r → GrantsExactly (Admits login revokes_key) r
-admitted login revokes_key accepted unrevoked (Ok g) by_key is = record { accepted = accepted; unrevoked = unrevoked; granted = is; by_key = by_key }
-admitted login revokes_key accepted unrevoked (Err r) by_key none = λ other g is. none other g is.granted
+pub admitted : (login : UserLogin) (key : Key) (revokes_key : List ℕ → Bool) → IsTrue (openssh_accepts_key login.least_rsa_bits key) → is_key_revoked revokes_key key ≡ false → (r : Result UserGrant UserRefusal) → IfOk r (λ g. g.certified ≡ None) → GrantsExactly (GrantsFirst login (OfKey key)) r → GrantsExactly (Admits login key revokes_key) r
+admitted login key revokes_key accepted unrevoked (Ok g) by_key is = record { accepted = accepted; unrevoked = unrevoked; granted = is; by_key = by_key }
+admitted login key revokes_key accepted unrevoked (Err r) by_key none = λ other g is. none other g is.granted

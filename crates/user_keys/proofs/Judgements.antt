@@ -9,7 +9,7 @@ use Rattle.user_keys.specs.Answers.{FollowsFrom, SaysOf}
 use Rattle.user_keys.specs.Judgements.{CountsAt, Judges, LetsFrom, NamesInVain, joined}
 use Rattle.user_keys.specs.Certificates.{judged_with}
 use Rattle.user_keys.specs.Lines.{MayBeFor}
-use Rattle.user_keys.specs.UserLogins.{Ends, IsListedBy, IsOwn, JudgesLogin, JudgesWith, Lets, MayLet, UserLogin, listed_key}
+use Rattle.user_keys.specs.UserLogins.{Credential, Ends, IsListedBy, IsOwn, JudgesLogin, JudgesWith, Lets, MayLet, OfCertificate, OfKey, UserLogin, listed_key}
 use Rattle.user_keys.specs.declared.answer.Answer.{Answer}
 use Rattle.user_keys.specs.declared.answer.Answer.TheVariants.{Yes, No, Unclear}
 use Rattle.user_keys.specs.declared.answer.Judgement.{Judgement}
@@ -107,12 +107,12 @@ module _ (t : Terms) (time : ℕ) (client : Option IpAddr) (host : Option (Bor (
   one_judgement judgement.Unclear judgement.Unclear p q = refl
 
 -- with a certificate too
-one_with : (certificate : Option Certificate) (user : List ℕ) (t : Terms) (Says : Judgement → Type 0) → ((a b : Judgement) → Says a → Says b → a ≡ b) → (a b : Judgement) → JudgesWith certificate user t Says a → JudgesWith certificate user t Says b → a ≡ b
-one_with None user t Says one a b p q = one a b p q
-one_with (Some c) user t Says one a b p q = p.2 ∙ ap (λ (j : Judgement). judged_with c user t j) (one p.0 q.0 p.1 q.1) ∙ sym q.2
+one_with : (by : Credential) (user : List ℕ) (t : Terms) (Says : Judgement → Type 0) → ((a b : Judgement) → Says a → Says b → a ≡ b) → (a b : Judgement) → JudgesWith by user t Says a → JudgesWith by user t Says b → a ≡ b
+one_with (OfKey k) user t Says one a b p q = one a b p q
+one_with (OfCertificate c) user t Says one a b p q = p.2 ∙ ap (λ (j : Judgement). judged_with c user t j) (one p.0 q.0 p.1 q.1) ∙ sym q.2
 
-one_of_login : (login : UserLogin) (t : Terms) (a b : Judgement) → JudgesLogin login t a → JudgesLogin login t b → a ≡ b
-one_of_login login t = one_with login.certificate login.user t (λ j. Judges t login.time login.client login.host j) (one_judgement t login.time login.client login.host)
+one_of_login : (login : UserLogin) (by : Credential) (t : Terms) (a b : Judgement) → JudgesLogin login by t a → JudgesLogin login by t b → a ≡ b
+one_of_login login by t = one_with by login.user t (λ j. Judges t login.time login.client login.host j) (one_judgement t login.time login.client login.host)
 
 allows_no_refusal : (r : Reason) → judgement.Allows ≡ judgement.Refuses r → ⊥
 allows_no_refusal r e = cc
@@ -125,16 +125,16 @@ refuses_no_doubt r e = cc
 
 -- ---- a line
 
-module _ (login : UserLogin) (line : List ℕ) (terms : code.Terms) (own : IsOwn login line (terms_of terms)) (one : (u : Terms) → IsOwn login line u → u ≡ terms_of terms) (told : MayBeFor (listed_key login) line → ⊥) where
+module _ (login : UserLogin) (by : Credential) (line : List ℕ) (terms : code.Terms) (own : IsOwn by line (terms_of terms)) (one : (u : Terms) → IsOwn by line u → u ≡ terms_of terms) (told : MayBeFor (listed_key by) line → ⊥) where
   abbrev Here : Terms → Judgement → Type 0
-  Here t j = JudgesLogin login t j
+  Here t j = JudgesLogin login by t j
 
   -- what is said of others is said of these
-  same : (u : Terms) (a b : Judgement) → Here (terms_of terms) a → IsOwn login line u → Here u b → a ≡ b
-  same u a b here for says = one_of_login login (terms_of terms) a b here (subst (λ (t : Terms). Here t b) (one u for) says)
+  same : (u : Terms) (a b : Judgement) → Here (terms_of terms) a → IsOwn by line u → Here u b → a ≡ b
+  same u a b here for says = one_of_login login by (terms_of terms) a b here (subst (λ (t : Terms). Here t b) (one u for) says)
 
-  pub says : (j : Judgement) → Here (terms_of terms) j → (v : LineVerdict) → FollowsFrom terms j v → SaysOf login line v
-  says judgement.Allows allows v is = subst (SaysOf login line) (sym is) (
+  pub says : (j : Judgement) → Here (terms_of terms) j → (v : LineVerdict) → FollowsFrom terms j v → SaysOf login by line v
+  says judgement.Allows allows v is = subst (SaysOf login by line) (sym is) (
     record { own = own; allowed = allows },
     (λ u lets. one u lets.own),
     λ may. elim may [
@@ -142,7 +142,7 @@ module _ (login : UserLogin) (line : List ℕ) (terms : code.Terms) (own : IsOwn
       | inr other ↦ allows_no_doubt (same other.terms judgement.Allows judgement.Unclear allows other.own other.may)
     ],
   )
-  says (judgement.Refuses r) refused v is = subst (SaysOf login line) (sym is) (
+  says (judgement.Refuses r) refused v is = subst (SaysOf login by line) (sym is) (
     record { terms = terms_of terms; own = own; refused = refused },
     λ ends. elim ends [
       | inl lets ↦ allows_no_refusal r (sym (same lets.0 (judgement.Refuses r) judgement.Allows refused lets.1.own lets.1.allowed))
@@ -150,15 +150,15 @@ module _ (login : UserLogin) (line : List ℕ) (terms : code.Terms) (own : IsOwn
       | inr (inr other) ↦ refuses_no_doubt r (same other.terms (judgement.Refuses r) judgement.Unclear refused other.own other.may)
     ],
   )
-  says judgement.Unclear may v is = subst (SaysOf login line) (sym is) (
+  says judgement.Unclear may v is = subst (SaysOf login by line) (sym is) (
     inr (record { terms = terms_of terms; own = own; may = may }),
     λ u lets. allows_no_doubt (sym (same u judgement.Unclear judgement.Allows may lets.own lets.allowed)),
   )
 
 -- ---- a line without told terms
 
-module _ (login : UserLogin) (line : List ℕ) (none : (t : Terms) → IsOwn login line t → ⊥) where
-  pub passes : (MayBeFor (listed_key login) line → ⊥) → ¬ IsListedBy login line × ¬ Ends login line
+module _ (login : UserLogin) (by : Credential) (line : List ℕ) (none : (t : Terms) → IsOwn by line t → ⊥) where
+  pub passes : (MayBeFor (listed_key by) line → ⊥) → ¬ IsListedBy by line × ¬ Ends login by line
   passes told = (
     λ listed. none listed.0 listed.1,
     λ ends. elim ends [
@@ -168,5 +168,5 @@ module _ (login : UserLogin) (line : List ℕ) (none : (t : Terms) → IsOwn log
     ],
   )
 
-  pub may_let : MayBeFor (listed_key login) line → MayLet login line × ((t : Terms) → Lets login line t → ⊥)
+  pub may_let : MayBeFor (listed_key by) line → MayLet login by line × ((t : Terms) → Lets login by line t → ⊥)
   may_let be = (inl be, λ t lets. none t lets.own)

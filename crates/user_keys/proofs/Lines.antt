@@ -107,15 +107,6 @@ module _ (authority : Bool) (key : Key) (line : List ℕ) where
       let same : own_part own.0.key ≡ own_part key = ap own_part own.2.own_key in
       spelled_before is_zero (own_part key) line (subst (λ (p : List ℕ). MaySpell p (before_zero line)) same (entry_spells (before_zero line) own.0 own.1.read (subst (λ (p : List ℕ). 17 ≤ length p) (sym same) long)))
 
-  pub a_comment : slice_index (without_blanks (before_zero line)) 0 ≡ hash_sign → ((t : Terms) → IsFor authority key line t → ⊥) × (MayBeFor key line → ⊥)
-  a_comment hash = (
-    λ t own. own.1.read.no_comment hash,
-    λ may. elim may [
-      | inl other ↦ other.1.read.no_comment hash
-      | inr odd ↦ odd.no_comment hash
-    ],
-  )
-
   -- what a line says that is no entry, nor a comment
   module _ (none : IsNoEntry IsTextEntry (before_zero line)) (no_comment : slice_index (without_blanks (before_zero line)) 0 ≢ hash_sign) (m : Marks) (are : AreMarks (own_part key) m) (r : Reading code.Terms) where
     -- one that is no UTF-8

@@ -27,9 +27,6 @@ none_at p [] none = refl
 none_at p (x ∷ xs) none = list_any_none p (x ∷ xs) (All-from_get_or (λ y. p y ≡ false) (x ∷ xs) x (none_there p (x ∷ xs) x none))
 
 module _ (listed : List (List ℕ)) (name : List ℕ) (names all : List (List ℕ)) (is : all ≡ name ∷ names) where
-  pub at_empty : (length name == 0) ≡ true → first_listed listed all ≡ None
-  at_empty empty = rw (is, empty) refl
-
   pub at_listed : (length name == 0) ≡ false → is_listed listed name ≡ true → first_listed listed all ≡ Some name
   at_listed some has = rw (is, some, has) refl
 

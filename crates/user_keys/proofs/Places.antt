@@ -5,11 +5,11 @@ use Rattle.std.proofs.NetLemmas.Theorems.{IsIpText_unique}
 use Rattle.std.specs.Net.Text.{ip_text}
 use Rattle.std.specs.declared.net.ip_addr.IpAddr.{IpAddr}
 use Rattle.std.specs.declared.net.ip_addr.IpAddr.TheVariants.{V4, V6}
-use Rattle.sshkey_addresses.specs.FromLists.{DecidesFrom, DecidesFromAt, LetsFrom, host_of}
-use Rattle.sshkey_addresses.specs.SourceAddresses.{IsSeenAs}
-use Rattle.sshkey_addresses.specs.declared.from.FromFault.{FromFault}
-use Rattle.sshkey_addresses.specs.declared.from.FromFault.TheVariants.{Address, Host, List as Pieces, Memory}
-use Rattle.sshkey_times.specs.declared.times.Span.{Span}
+use Rattle.sshkey_matching.specs.FromLists.{DecidesFrom, DecidesFromAt, LetsFrom, host_of}
+use Rattle.sshkey_matching.specs.SourceAddresses.{IsSeenAs}
+use Rattle.sshkey_matching.specs.declared.from.FromFault.{FromFault}
+use Rattle.sshkey_matching.specs.declared.from.FromFault.TheVariants.{Address, Host, List as Pieces, Memory}
+use Rattle.sshkey_matching.specs.declared.times.Span.{Span}
 use Rattle.user_keys.specs.Judgements as judged
 use Rattle.user_keys.specs.Judgements.{CountsAt, Decides}
 use Rattle.user_keys.specs.declared.answer.Answer.{Answer}

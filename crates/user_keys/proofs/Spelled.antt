@@ -4,7 +4,8 @@ use Rattle.std.proofs.lemmas.Bool.{cases_lt}
 use Rattle.std.proofs.lemmas.List.{drop_all, drop_more}
 use Rattle.std.specs.Prelude.{slice_index}
 use Rattle.sshkey_entries.specs.Fronts.{without_front}
-use Rattle.user_keys.specs.Spellings.{Follow, HasMark, HasMarkAt, StandAt, is_white}
+use Rattle.sshkey_entries.specs.Fields.{is_white}
+use Rattle.user_keys.specs.Spellings.{Follow, HasMark, HasMarkAt, StandAt}
 use Rattle.user_keys.specs.declared.marks.Marks.{Marks}
 
 -- ---- one symbol more
@@ -12,15 +13,6 @@ use Rattle.user_keys.specs.declared.marks.Marks.{Marks}
 module _ (symbols : List ℕ) (i symbol : ℕ) (less : i < length symbols) (here : get_or symbols i symbol ≡ symbol) (text : List ℕ) where
   left : drop i symbols ≡ symbol ∷ drop (i + 1) symbols
   left = drop_more symbols i symbol less ∙ ap (λ (s : ℕ). s ∷ drop (i + 1) symbols) here
-
-  pub one_before : (rest : List ℕ) → without_front is_white text ≡ symbol ∷ rest → Follow (drop (i + 1) symbols) rest → Follow (drop i symbols) text
-  one_before rest is more = subst (λ (l : List ℕ). Follow l text) (sym left) (rest, is, more)
-
-  pub one_after : (rest : List ℕ) → without_front is_white text ≡ symbol ∷ rest → Follow (drop i symbols) text → Follow (drop (i + 1) symbols) rest
-  one_after rest is all =
-      let f = subst (λ (l : List ℕ). Follow l text) left all in
-      let same : symbol ∷ f.0 ≡ symbol ∷ rest = sym f.1 ∙ is in
-      subst (Follow (drop (i + 1) symbols)) (ap (drop 1) same) f.2
 
   pub none_after : ((rest : List ℕ) → without_front is_white text ≡ symbol ∷ rest → ⊥) → Follow (drop i symbols) text → ⊥
   none_after none all = let f = subst (λ (l : List ℕ). Follow l text) left all in none f.0 f.1
@@ -37,18 +29,7 @@ first_and_others (s ∷ symbols) text place some = (λ h. h, λ h. h)
 -- ---- marks up to a place
 
 module _ (m : Marks) (text : List ℕ) where
-  pub somewhere : (place : ℕ) → place < length text → HasMarkAt m text place → HasMark m text
-  somewhere place l (inl a) = inl (place, l, a)
-  somewhere place l (inr (inl b)) = inr (inl (place, l, b))
-  somewhere place l (inr (inr c)) = inr (inr (place, l, c))
-
   pub nowhere : (end : ℕ) → length text ≤ end → ((k : ℕ) → k < end → HasMarkAt m text k → ⊥) → HasMark m text → ⊥
   nowhere end all none (inl a) = none a.0 (omega (arith, all, a.1)) (inl a.2)
   nowhere end all none (inr (inl b)) = none b.0 (omega (arith, all, b.1)) (inr (inl b.2))
   nowhere end all none (inr (inr c)) = none c.0 (omega (arith, all, c.1)) (inr (inr c.2))
-
-  pub none_here : (place : ℕ) → ((k : ℕ) → k < place → HasMarkAt m text k → ⊥) → (HasMarkAt m text place → ⊥) → (k : ℕ) → k < place + 1 → HasMarkAt m text k → ⊥
-  none_here place before here k l = elim (cases_lt k place) [
-    | inl less ↦ before k less
-    | inr same ↦ λ h. here (subst (HasMarkAt m text) (let e : k ≡ place = omega (arith, l, same) in e) h)
-  ]

@@ -5,7 +5,8 @@ use Rattle.std.proofs.Math.Seq.{take-append_seam}
 use Rattle.memchr.specs.Find.{FindsNeedle, IsFirstByte, OccursAt, is_byte3}
 use Rattle.memchr.proofs.lemmas.MatchLemmas.{OccursAt-from_part}
 use Rattle.sshkey_entries.proofs.Fronts.{nothing_stays, stays}
-use Rattle.user_keys.specs.Spellings.{Follow, IsUnmarked, IsUnspaced, Lacks, StandAt, is_white}
+use Rattle.sshkey_entries.specs.Fields.{is_white}
+use Rattle.user_keys.specs.Spellings.{Follow, IsUnmarked, IsUnspaced, Lacks, StandAt}
 use Rattle.user_keys.specs.declared.marks.Marks.{Marks}
 
 -- ---- parts
@@ -60,8 +61,11 @@ unspaced_before text place is k l =
     let less : k < place = omega (arith, l, length-take-le place text (omega (arith, is.0.high))) in
     ap is_white (get_or-take place text k 0 less) ∙ not_white (get_or text k 0) (is.0.before k (omega arith) less)
 
+pub unspaced_whole : (text : List ℕ) → IsUnspaced text → IsUnspaced (take (length text) text)
+unspaced_whole text free = subst IsUnspaced (sym (take_all (length text) text (omega arith))) free
+
 pub unspaced_all : (text : List ℕ) → IsFirstByte (is_byte3 11 12 13) text None → IsUnspaced (take (length text) text)
-unspaced_all text none = subst IsUnspaced (sym (take_all (length text) text (omega arith))) (λ k l. not_white (get_or text k 0) (none k (omega arith) l))
+unspaced_all text none = unspaced_whole text (λ k l. not_white (get_or text k 0) (none k (omega arith) l))
 
 -- ---- without white space
 

@@ -16,7 +16,7 @@ use Rattle.login_terms.specs.Terms.{Terms, terms_of}
 use Rattle.openssh_limits.specs.Keys.{openssh_accepts_key}
 use Rattle.sshkey_base.specs.Reading.{NoSpelling}
 use Rattle.sshkey_base.specs.declared.error.Error.{Error}
-use Rattle.sshkey_cert_form.specs.Faults.{IsFaultOf}
+use Rattle.sshkey_cert.specs.Faults.{IsFaultOf}
 use Rattle.sshkey_keys.specs.Fingerprints.{IsFingerprint}
 use Rattle.sshkey_krl.specs.Revocation as krl
 use Rattle.sshkey_model.specs.Certificates.{Certificate, normal_certificate, certificate_format, SpellsCertificate}
@@ -28,7 +28,7 @@ use Rattle.user_keys.specs.Answers.{IsWhyNoLine}
 use Rattle.user_keys.specs.Certificates.{merged, name_for}
 use Rattle.user_keys.specs.FirstLines.{LetsFirst, TakesAsTold, TakesFirst}
 use Rattle.user_keys.specs.Spellings.{MaySpell, own_part}
-use Rattle.user_keys.specs.UserLogins.{Lets, MayLet, UserLogin, login_of}
+use Rattle.user_keys.specs.UserLogins.{Lets, MayLet, OfCertificate, UserLogin, login_of}
 use Rattle.user_keys.specs.declared.login.UserLogin as code
 use Rattle.user_keys.specs.declared.grant.Certified.{Certified}
 use Rattle.user_keys.specs.declared.grant.NamedLine.{NamedLine}
@@ -46,11 +46,7 @@ pub record CertificateLogin : Type 0 where
 
 -- that of a call
 abbrev pub login_with : code.UserLogin → List ℕ → (Question → Bool) → (List ℕ → krl.CertificateIdentity → Bool) → CertificateLogin
-login_with l blob accepts revokes = record { login = login_of l None; blob = blob; accepts = accepts; revokes = revokes }
-
--- the login by that certificate
-abbrev pub by : UserLogin → Certificate → UserLogin
-by login c = record login { certificate = Some c }
+login_with l blob accepts revokes = record { login = login_of l; blob = blob; accepts = accepts; revokes = revokes }
 
 abbrev pub client_of : Option IpAddr → Client
 client_of None = Unknown
@@ -58,7 +54,7 @@ client_of (Some address) = At address
 
 -- whom the policy of certificates is asked about: who has that name, by one of those authorities
 abbrev pub policy_login : CertificateLogin → List Fingerprint → List ℕ → policy.Login
-policy_login l authorities name = record { accepts = l.accepts; revokes = l.revokes; authorities = authorities; time = l.login.time; user = name; offered = l.login.offered; blob = l.blob; least_rsa_bits = l.login.least_rsa_bits; client = client_of l.login.client }
+policy_login l authorities name = record { accepts = l.accepts; revokes = l.revokes; authorities = authorities; time = l.login.time; user = name; blob = l.blob; least_rsa_bits = l.login.least_rsa_bits; client = client_of l.login.client }
 
 -- ---- who is let in
 
@@ -133,16 +129,16 @@ signer c = fingerprint Sha256 c.signed.signature_key ∷ []
 
 -- It is the first line of the authority that lets the certificate in, for the first name that counts.
 abbrev pub IsLineFor : UserLogin → Certificate → ℕ → Terms → List ℕ → Type 0
-IsLineFor login c number t name = LetsFirst (Lets (by login c)) (MayLet (by login c)) login.lines number t × (name_for c login.user t ≡ Some name)
+IsLineFor login c number t name = LetsFirst (Lets login (OfCertificate c)) (MayLet login (OfCertificate c)) login.lines number t × (name_for c login.user t ≡ Some name)
 
 abbrev pub AdmitsCertificate : CertificateLogin → UserGrant → Type 0
 AdmitsCertificate l g = AdmitsBy (IsLineFor l.login) signer l g
 
 abbrev pub IsAsStrictWith : CertificateLogin → UserGrant → Type 0
-IsAsStrictWith l g = IsAsStrictBy (λ c. Lets (by l.login c)) (λ c. MayLet (by l.login c)) l g
+IsAsStrictWith l g = IsAsStrictBy (λ c. Lets l.login (OfCertificate c)) (λ c. MayLet l.login (OfCertificate c)) l g
 
 abbrev pub IsWhyNoCertificate : CertificateLogin → UserRefusal → Type 0
-IsWhyNoCertificate l r = IsWhyRefusedBy (λ c. IsWhyNoLine (by l.login c)) (IsLineFor l.login) signer l r
+IsWhyNoCertificate l r = IsWhyRefusedBy (λ c. IsWhyNoLine l.login (OfCertificate c)) (IsLineFor l.login) signer l r
 
 -- The key that signed the certificate may be spelled in a line.
 abbrev pub NeedsMemory : CertificateLogin → Type 0

@@ -3,9 +3,10 @@
 use Rattle.std.specs.Prelude.{◌≡◌, ℕ, ◌==◌, List, [], ◌∷◌, Bool, true, false, ◌&&◌, ◌||◌, not, bytes_eq, codes, if◌then◌else◌, is_some, length, Option, Some, None}
 use Rattle.std.specs.List.{list_any}
 use Rattle.login_policy.specs.KnownOptions.{force_command, no_touch_required, verify_required}
+use Rattle.login_terms.specs.Questions.{first_of}
 use Rattle.login_terms.specs.Terms.{Terms}
 use Rattle.login_terms.specs.declared.permissions.Permissions.{Permissions}
-use Rattle.sshkey_addresses.specs.SourceAddresses.{pieces}
+use Rattle.sshkey_matching.specs.SourceAddresses.{pieces}
 use Rattle.sshkey_model.specs.Certificates.{Certificate}
 use Rattle.sshkey_model.specs.OptionMaps.{value_of}
 use Rattle.sshkey_model.specs.Options.{CertificateOption}
@@ -62,11 +63,6 @@ abbrev pub JudgesCertificate : Certificate → List ℕ → Terms → (Judgement
 JudgesCertificate c user t Says j = (alone : Judgement) × Says alone × (j ≡ judged_with c user t alone)
 
 -- ---- what a login is bound to
-
--- the line's command, or else the certificate's
-abbrev pub first_of : Option (List ℕ) → Option (List ℕ) → Option (List ℕ)
-first_of None other = other
-first_of (Some command) other = Some command
 
 abbrev pub permits : List CertificateOption → List ℕ → Bool
 permits extensions name = is_some (value_of name extensions)

@@ -14,7 +14,7 @@ use Rattle.sshkey_model.specs.CertificateExamples.{openssh_certificate}
 use Rattle.sshkey_model.specs.Certificates.{Certificate, normal_certificate}
 use Rattle.sshkey_model.specs.Fingerprints.{Fingerprint}
 use Rattle.sshkey_model.specs.HexText.{hex}
-use Rattle.sshkey_model.specs.Keys.{Dsa, DsaKey, Opaque}
+use Rattle.sshkey_model.specs.Keys.{Dsa, DsaKey, Key, Opaque}
 use Rattle.sshkey_model.specs.Parts.{flat}
 use Rattle.user_keys.specs.CertificateLogins.{AdmitsBy, BindsTogether, CertificateLogin, IsCertified, IsCertifiedBy, client_of}
 use Rattle.user_keys.specs.Certificates.{merged}
@@ -24,12 +24,12 @@ use Rattle.sshkey_entries.specs.Entries.{IsNoEntry, hash_sign}
 use Rattle.sshkey_entries.specs.Fields.{without_blanks}
 use Rattle.std.specs.Str.{IsUtf8}
 use Rattle.user_keys.specs.Lines.{HasName, IsFor, IsNameFor, IsOddlySpelled, IsTextEntry, MayBeFor, before_zero, is_zero}
-use Rattle.user_keys.specs.LoginExamples.{by_key, other}
+use Rattle.user_keys.specs.LoginExamples.{by_key, login_at, other}
 use Rattle.user_keys.specs.Options.{AreTerms, MayBeTerms}
 use Rattle.user_keys.specs.Principals.{DecidesBy, HasOptions, MayDecideBy, after_last, is_feed, is_space, is_tab}
 use Rattle.user_keys.specs.Spellings.{MaySpell, StandAt, own_part}
 use Rattle.user_keys.specs.TermExamples.{expiring}
-use Rattle.user_keys.specs.UserLogins.{Admits, GrantsFirst, IsOwn, JudgesWith, MayAllow, RefusesFor, UserLogin}
+use Rattle.user_keys.specs.UserLogins.{Admits, GrantsFirst, IsOwn, JudgesWith, MayAllow, OfCertificate, OfKey, RefusesFor, UserLogin}
 use Rattle.user_keys.specs.declared.answer.Judgement.TheVariants as judgement
 use Rattle.user_keys.specs.declared.grant.Certified.{Certified}
 use Rattle.user_keys.specs.declared.grant.UserGrant.{UserGrant}
@@ -143,22 +143,22 @@ PassedOver = ((line : List ℕ) (t : Terms) → IsFor false other line t → IsP
 
 -- A line refuses a key once it is over in each zone, and may allow it until then.
 abbrev pub RefusedLines : Type 0
-RefusedLines = ((line : List ℕ) → IsOwn (by_key 21) line expiring → RefusesFor (by_key 21) line reason.Expired)
-    × ((line : List ℕ) → ((t : Terms) → IsOwn (by_key 20) line t → t ≡ expiring) → RefusesFor (by_key 20) line reason.Expired → ⊥)
-    × ((line : List ℕ) → IsOwn (by_key 20) line expiring → MayAllow (by_key 20) line)
-    × ((line : List ℕ) → ((t : Terms) → IsOwn (by_key 21) line t → t ≡ expiring) → MayAllow (by_key 21) line → ⊥)
-    × JudgesWith None (codes "bob") no_terms (λ j. j ≡ judgement.Allows) judgement.Allows
-    × JudgesWith (Some of_alice) (codes "alice") no_terms (λ j. j ≡ judgement.Allows) judgement.Allows
-    × JudgesWith (Some of_alice) (codes "bob") no_terms (λ j. j ≡ judgement.Allows) (judgement.Refuses reason.Principals)
+RefusedLines = ((line : List ℕ) → IsOwn by_key line expiring → RefusesFor (login_at 21) by_key line reason.Expired)
+    × ((line : List ℕ) → ((t : Terms) → IsOwn by_key line t → t ≡ expiring) → RefusesFor (login_at 20) by_key line reason.Expired → ⊥)
+    × ((line : List ℕ) → IsOwn by_key line expiring → MayAllow (login_at 20) by_key line)
+    × ((line : List ℕ) → ((t : Terms) → IsOwn by_key line t → t ≡ expiring) → MayAllow (login_at 21) by_key line → ⊥)
+    × JudgesWith by_key (codes "bob") no_terms (λ j. j ≡ judgement.Allows) judgement.Allows
+    × JudgesWith (OfCertificate of_alice) (codes "alice") no_terms (λ j. j ≡ judgement.Allows) judgement.Allows
+    × JudgesWith (OfCertificate of_alice) (codes "bob") no_terms (λ j. j ≡ judgement.Allows) (judgement.Refuses reason.Principals)
 
 -- ---- who is let in
 
 -- Nobody by a key that is revoked or of DSA, nor but for the first line; and no certificate is told.
 abbrev pub AdmittedKeys : Type 0
-AdmittedKeys = ((login : UserLogin) (revokes_key : List ℕ → Bool) (g : UserGrant) → Admits login revokes_key g → is_key_revoked revokes_key login.offered ≡ true → ⊥)
-    × ((login : UserLogin) (revokes_key : List ℕ → Bool) (g : UserGrant) (k : DsaKey) → login.offered ≡ Dsa k → Admits login revokes_key g → ⊥)
-    × ((login : UserLogin) (revokes_key : List ℕ → Bool) (g : UserGrant) → Admits login revokes_key g → GrantsFirst login g)
-    × ((login : UserLogin) (revokes_key : List ℕ → Bool) (g : UserGrant) (by : Certified) → g.certified ≡ Some by → Admits login revokes_key g → ⊥)
+AdmittedKeys = ((login : UserLogin) (key : Key) (revokes_key : List ℕ → Bool) (g : UserGrant) → Admits login key revokes_key g → is_key_revoked revokes_key key ≡ true → ⊥)
+    × ((login : UserLogin) (key : Key) (revokes_key : List ℕ → Bool) (g : UserGrant) (k : DsaKey) → key ≡ Dsa k → Admits login key revokes_key g → ⊥)
+    × ((login : UserLogin) (key : Key) (revokes_key : List ℕ → Bool) (g : UserGrant) → Admits login key revokes_key g → GrantsFirst login (OfKey key) g)
+    × ((login : UserLogin) (key : Key) (revokes_key : List ℕ → Bool) (g : UserGrant) (by : Certified) → g.certified ≡ Some by → Admits login key revokes_key g → ⊥)
 
 -- A certificate by an authority of DSA lets nobody in, nor one that no line lets in, that is not in its
 -- normal form or that the policy refuses. A client's address is the policy's, too.

@@ -1,7 +1,7 @@
 -- Worked examples, on both sides of each edge.
 use Rattle.std.specs.Prelude.{◌≡◌, ℕ, List, [], ◌∷◌, ◌++◌, true, false, None, Some, codes}
 use Rattle.sshkey_model.specs.HexText.{hex}
-use Rattle.sshkey_times.specs.declared.times.Span.{Span}
+use Rattle.sshkey_matching.specs.declared.times.Span.{Span}
 use Rattle.login_terms.specs.Terms.{all_permitted, none_permitted}
 use Rattle.user_keys.specs.Certificates.{agree, both_permit, first_listed, judged_by}
 use Rattle.user_keys.specs.Judgements.{CountsAt, joined}

@@ -3,11 +3,11 @@
 use Rattle.std.specs.Prelude.{◌≡◌, ◌⊎◌, ◌<◌, ◌≤◌, ℕ, List, Bool, true, false, Option, Some, None, is_some, Result, Ok, Err}
 use Rattle.std.specs.Net.Text.{ip_text}
 use Rattle.std.specs.declared.net.ip_addr.IpAddr.{IpAddr}
-use Rattle.sshkey_addresses.specs.FromLists.{DecidesFrom}
-use Rattle.sshkey_addresses.specs.SourceAddresses.{IsSeenAs}
-use Rattle.sshkey_addresses.specs.declared.from.FromFault.{FromFault}
-use Rattle.sshkey_addresses.specs.declared.from.FromFault.TheVariants.{Address, Host, List as Pieces}
-use Rattle.sshkey_times.specs.declared.times.Span.{Span}
+use Rattle.sshkey_matching.specs.FromLists.{DecidesFrom}
+use Rattle.sshkey_matching.specs.SourceAddresses.{IsSeenAs}
+use Rattle.sshkey_matching.specs.declared.from.FromFault.{FromFault}
+use Rattle.sshkey_matching.specs.declared.from.FromFault.TheVariants.{Address, Host, List as Pieces}
+use Rattle.sshkey_matching.specs.declared.times.Span.{Span}
 use Rattle.login_terms.specs.Terms.{Terms}
 use Rattle.user_keys.specs.declared.answer.Answer.{Answer}
 use Rattle.user_keys.specs.declared.answer.Answer.TheVariants.{Yes, No, Unclear}

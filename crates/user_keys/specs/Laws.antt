@@ -2,7 +2,8 @@
 use Rattle.std.specs.Prelude.{◌≡◌, ◌≤◌, ℕ, List, ◌++◌, filter, length, not}
 use Rattle.base64.specs.Engines.{standard}
 use Rattle.base64.specs.GeneralPurpose.{encode_of}
-use Rattle.user_keys.specs.Spellings.{MaySpell, is_white}
+use Rattle.sshkey_entries.specs.Fields.{is_white}
+use Rattle.user_keys.specs.Spellings.{MaySpell}
 
 -- A word of a line is, white space within aside, the Base64 of bytes in which a key's own part
 -- stands, whatever stands before and after it. Then the key may be spelled in the line.

@@ -2,7 +2,11 @@
 -- which line an sshd takes.
 use Rattle.std.specs.Prelude.{◌≡◌, ℕ, List, [], ◌∷◌, ◌++◌, true, false, IsTrue, Option, None, Some, bytes_eq, codes, if◌then◌else◌, replicate}
 use Rattle.login_terms.specs.Terms.{Terms, no_terms, none_permitted, terms_of}
+use Rattle.sshkey_cert.specs.CertificateValues.{certificate_of}
+use Rattle.sshkey_cert.specs.declared.certificate.Certificate as code
 use Rattle.sshkey_entries.specs.AuthorizedKeys.{AuthorizedKey}
+use Rattle.sshkey_keys.specs.Keys.{key_of}
+use Rattle.sshkey_keys.specs.declared.key_data.KeyData.{KeyData}
 use Rattle.sshkey_model.specs.CertificateExamples.{openssh_certificate}
 use Rattle.sshkey_model.specs.Certificates.{Certificate}
 use Rattle.sshkey_model.specs.Keys.{Key, Dsa, Ecdsa, Ed25519, Rsa, SkEcdsa, SkEd25519, Opaque}
@@ -11,12 +15,14 @@ use Rattle.user_keys.specs.Answers.{first_refused, refusal_for}
 use Rattle.user_keys.specs.FirstLines.{TakesAsTold, TakesFirst, but_tunnels}
 use Rattle.user_keys.specs.Lines.{IsEntryFor, MayBeEntryFor, MayBeFor, before_zero}
 use Rattle.user_keys.specs.Options.{AreTerms, MayBeTerms}
-use Rattle.user_keys.specs.Spellings.{is_white, own_part}
+use Rattle.user_keys.specs.Spellings.{own_part}
 use Rattle.user_keys.specs.TermExamples.{expiring, for_names}
-use Rattle.user_keys.specs.UserLogins.{IsAsStrict, IsOwn, Lets, MayLet, UserLogin, key_listed}
+use Rattle.user_keys.specs.UserLogins.{Credential, IsAsStrict, IsOwn, Lets, MayLet, OfCertificate, OfKey, UserLogin, credential_of, is_certificate, listed_key}
+use Rattle.user_keys.specs.declared.credential.Credential.TheVariants as code_by
 use Rattle.user_keys.specs.declared.grant.UserGrant.{UserGrant}
 use Rattle.user_keys.specs.declared.refusal.Reason.TheVariants as reason
 use Rattle.user_keys.specs.declared.refusal.UserRefusal.TheVariants as refusal
+use denote.Ref.{Bor}
 
 -- ---- the parts of keys
 
@@ -29,11 +35,6 @@ Parts = (own_part (Dsa (record { p = codes "p"; q = codes "q"; g = codes "g"; y 
     × (own_part (Ecdsa Nistp256 (codes "p")) ≡ codes "p") × (own_part (Ed25519 (codes "p")) ≡ codes "p")
     × (own_part (SkEcdsa (record { key = codes "p"; application = codes "ssh:" })) ≡ codes "p") × (own_part (SkEd25519 (record { key = codes "p"; application = codes "ssh:" })) ≡ codes "p")
     × (own_part (Opaque (codes "key@example.org") (codes "p")) ≡ codes "p")
-
--- White space that ends no word is passed over within Base64 (isspace(3)): a vertical tab, a form feed
--- and a carriage return. What ends a word is not, nor is another control character.
-abbrev pub WhiteSpace : Type 0
-WhiteSpace = (is_white 0x0b ≡ true) × (is_white 0x0c ≡ true) × (is_white 0x0d ≡ true) × (is_white 0x08 ≡ false) × (is_white 0x09 ≡ false) × (is_white 0x0e ≡ false) × (is_white 0x20 ≡ false)
 
 -- A line ends at a zero byte.
 abbrev pub LineEnds : Type 0
@@ -66,28 +67,28 @@ OddEntries = ((options : List ℕ) → MayBeTerms options → MayBeEntryFor othe
 
 -- ---- logins
 
-abbrev login_at : ℕ → Option Certificate → UserLogin
-login_at time certificate = record { lines = []; user = codes "alice"; offered = other; certificate = certificate; client = None; host = None; time = time; least_rsa_bits = 0 }
+abbrev pub login_at : ℕ → UserLogin
+login_at time = record { lines = []; user = codes "alice"; client = None; host = None; time = time; least_rsa_bits = 0 }
 
-abbrev pub by_key : ℕ → UserLogin
-by_key time = login_at time None
+abbrev pub by_key : Credential
+by_key = OfKey other
 
 -- A line of the key lets it in whose terms allow it: at its time, with no `principals`, and without a
 -- list of places where the client's is not known.
 abbrev pub LetsKey : Type 0
-LetsKey = ((line : List ℕ) → IsOwn (by_key 21) line no_terms → Lets (by_key 21) line no_terms)
-    × ((line : List ℕ) → IsOwn (by_key 10) line expiring → Lets (by_key 10) line expiring)
-    × ((line : List ℕ) (t : Terms) → Lets (by_key 10) line t → IsOwn (by_key 10) line t)
-    × ((line : List ℕ) (t : Terms) → Lets (by_key 10) line t → t.is_authority ≡ false)
-    × ((line : List ℕ) → Lets (by_key 21) line expiring → ⊥)
-    × ((line : List ℕ) → Lets (by_key 10) line (for_names (codes "alice")) → ⊥)
-    × ((line : List ℕ) → Lets (by_key 10) line (record no_terms { from = Some (codes "*") }) → ⊥)
+LetsKey = ((line : List ℕ) → IsOwn by_key line no_terms → Lets (login_at 21) by_key line no_terms)
+    × ((line : List ℕ) → IsOwn by_key line expiring → Lets (login_at 10) by_key line expiring)
+    × ((line : List ℕ) (t : Terms) → Lets (login_at 10) by_key line t → IsOwn by_key line t)
+    × ((line : List ℕ) (t : Terms) → Lets (login_at 10) by_key line t → t.is_authority ≡ false)
+    × ((line : List ℕ) → Lets (login_at 21) by_key line expiring → ⊥)
+    × ((line : List ℕ) → Lets (login_at 10) by_key line (for_names (codes "alice")) → ⊥)
+    × ((line : List ℕ) → Lets (login_at 10) by_key line (record no_terms { from = Some (codes "*") }) → ⊥)
 
 abbrev certificate_for : List (List ℕ) → Certificate
 certificate_for names = record openssh_certificate { signed = record openssh_certificate.signed { valid_principals = names; critical_options = record { name = codes "force-command"; value = codes "ls" } ∷ [] } }
 
-abbrev by_certificate : ℕ → List (List ℕ) → UserLogin
-by_certificate time names = login_at time (Some (certificate_for names))
+abbrev by_certificate : List (List ℕ) → Credential
+by_certificate names = OfCertificate (certificate_for names)
 
 abbrev authority : Terms
 authority = record no_terms { is_authority = true }
@@ -95,21 +96,24 @@ authority = record no_terms { is_authority = true }
 -- A line of the key that signed it lets a certificate in with `cert-authority`, if the terms allow it,
 -- it lists the user, and no other command stands in the line.
 abbrev pub LetsCertificate : Type 0
-LetsCertificate = ((line : List ℕ) → IsOwn (by_certificate 5 (codes "alice" ∷ [])) line authority → Lets (by_certificate 5 (codes "alice" ∷ [])) line authority)
-    × ((line : List ℕ) (t : Terms) → Lets (by_certificate 5 (codes "alice" ∷ [])) line t → IsTrue t.is_authority)
-    × ((line : List ℕ) → Lets (by_certificate 5 (codes "bob" ∷ [])) line authority → ⊥)
-    × ((line : List ℕ) → Lets (by_certificate 5 (codes "alice" ∷ [])) line (record authority { command = Some (codes "id") }) → ⊥)
-    × ((line : List ℕ) → Lets (by_certificate 21 (codes "alice" ∷ [])) line (record expiring { is_authority = true }) → ⊥)
-    × (key_listed other None ≡ other) × (key_listed other (Some openssh_certificate) ≡ openssh_certificate.signed.signature_key)
+LetsCertificate = ((line : List ℕ) → IsOwn (by_certificate (codes "alice" ∷ [])) line authority → Lets (login_at 5) (by_certificate (codes "alice" ∷ [])) line authority)
+    × ((line : List ℕ) (t : Terms) → Lets (login_at 5) (by_certificate (codes "alice" ∷ [])) line t → IsTrue t.is_authority)
+    × ((line : List ℕ) → Lets (login_at 5) (by_certificate (codes "bob" ∷ [])) line authority → ⊥)
+    × ((line : List ℕ) → Lets (login_at 5) (by_certificate (codes "alice" ∷ [])) line (record authority { command = Some (codes "id") }) → ⊥)
+    × ((line : List ℕ) → Lets (login_at 21) (by_certificate (codes "alice" ∷ [])) line (record expiring { is_authority = true }) → ⊥)
+    × (listed_key by_key ≡ other) × (listed_key (OfCertificate openssh_certificate) ≡ openssh_certificate.signed.signature_key)
+    × (is_certificate by_key ≡ false) × (is_certificate (OfCertificate openssh_certificate) ≡ true)
+    × ((k : Bor KeyData) → credential_of (code_by.Key k) ≡ OfKey (key_of k.now))
+    × ((c : Bor code.Certificate) → credential_of (code_by.Certificate c) ≡ OfCertificate (certificate_of c.now))
 
 -- sshd may let the key in by a line that it may take for one of the key, or by one of the key that is
 -- over in some zone; and by no other: by none that is over in no zone, nor by one that is over in all.
 abbrev pub MayLetIn : Type 0
-MayLetIn = ((line : List ℕ) → MayBeFor other line → MayLet (by_key 10) line)
-    × ((line : List ℕ) → IsOwn (by_key 11) line expiring → MayLet (by_key 11) line)
-    × ((line : List ℕ) → IsOwn (by_key 20) line expiring → MayLet (by_key 20) line)
-    × ((line : List ℕ) → (MayBeFor other line → ⊥) → ((t : Terms) → IsOwn (by_key 10) line t → t ≡ expiring) → MayLet (by_key 10) line → ⊥)
-    × ((line : List ℕ) → (MayBeFor other line → ⊥) → ((t : Terms) → IsOwn (by_key 21) line t → t ≡ expiring) → MayLet (by_key 21) line → ⊥)
+MayLetIn = ((line : List ℕ) → MayBeFor other line → MayLet (login_at 10) by_key line)
+    × ((line : List ℕ) → IsOwn by_key line expiring → MayLet (login_at 11) by_key line)
+    × ((line : List ℕ) → IsOwn by_key line expiring → MayLet (login_at 20) by_key line)
+    × ((line : List ℕ) → (MayBeFor other line → ⊥) → ((t : Terms) → IsOwn by_key line t → t ≡ expiring) → MayLet (login_at 10) by_key line → ⊥)
+    × ((line : List ℕ) → (MayBeFor other line → ⊥) → ((t : Terms) → IsOwn by_key line t → t ≡ expiring) → MayLet (login_at 21) by_key line → ⊥)
 
 -- Of the lines that refuse the first is told.
 abbrev pub FirstRefused : Type 0
@@ -140,18 +144,18 @@ abbrev pub takes_all : List ℕ → Option Terms
 takes_all = taking restricted
 
 -- The line lets in on these terms alone.
-pub record LetsAlone (login : UserLogin) (line : List ℕ) (t : Terms) : Type 0 where
-  pub lets : Lets login line t
-  pub alone : (u : Terms) → Lets login line u → u ≡ t
+pub record LetsAlone (login : UserLogin) (by : Credential) (line : List ℕ) (t : Terms) : Type 0 where
+  pub lets : Lets login by line t
+  pub alone : (u : Terms) → Lets login by line u → u ≡ t
 
-pub record HasBoth (login : UserLogin) : Type 0 where
+pub record HasBoth (login : UserLogin) (by : Credential) : Type 0 where
   pub lines : login.lines ≡ restrict_line ∷ key_line ∷ []
-  pub first : LetsAlone login restrict_line restricted
-  pub second : LetsAlone login key_line no_terms
+  pub first : LetsAlone login by restrict_line restricted
+  pub second : LetsAlone login by key_line no_terms
 
 -- What is promised of a grant is promised of both. The older one takes the grant's line on its terms
 -- but for tunnels, and on no more: all its terms are not as told.
 abbrev pub Restricted : Type 0
-Restricted = ((login : UserLogin) (g : UserGrant) → HasBoth login → IsAsStrict login g → TakesFirst (λ t. t) takes_all login.lines g.line (terms_of g.terms))
-    × ((login : UserLogin) (g : UserGrant) → HasBoth login → IsAsStrict login g → TakesFirst but_tunnels leaves_tunnels login.lines g.line (terms_of g.terms))
-    × ((login : UserLogin) → HasBoth login → TakesAsTold (Lets login) (MayLet login) login.lines (λ t. t) leaves_tunnels → ⊥)
+Restricted = ((login : UserLogin) (by : Credential) (g : UserGrant) → HasBoth login by → IsAsStrict login by g → TakesFirst (λ t. t) takes_all login.lines g.line (terms_of g.terms))
+    × ((login : UserLogin) (by : Credential) (g : UserGrant) → HasBoth login by → IsAsStrict login by g → TakesFirst but_tunnels leaves_tunnels login.lines g.line (terms_of g.terms))
+    × ((login : UserLogin) (by : Credential) → HasBoth login by → TakesAsTold (Lets login by) (MayLet login by) login.lines (λ t. t) leaves_tunnels → ⊥)

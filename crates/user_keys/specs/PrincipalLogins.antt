@@ -28,7 +28,7 @@ use Rattle.user_keys.specs.declared.refusal.UserRefusal.TheVariants as refusal
 
 -- that of a call, whose text is one of principals
 abbrev pub login_in_place : code.UserLogin → UserLogin
-login_in_place l = record (login_of l None) { lines = lines_at_feeds l.text.now }
+login_in_place l = record (login_of l) { lines = lines_at_feeds l.text.now }
 
 abbrev pub principal_login : code.UserLogin → List ℕ → (Question → Bool) → (List ℕ → krl.CertificateIdentity → Bool) → CertificateLogin
 principal_login l blob accepts revokes = record { login = login_in_place l; blob = blob; accepts = accepts; revokes = revokes }

@@ -1,9 +1,10 @@
 -- In which lines of authorized_keys a key may be spelled for sshd(8). It passes over white space
 -- within Base64, and reads needless zeros and other names in front of a key, or did so.
-use Rattle.std.specs.Prelude.{◌≡◌, ◌⊎◌, ℕ, ◌+◌, ◌-◌, ◌<◌, ◌≤◌, List, [], ◌∷◌, ◌++◌, Bool, false, ◌||◌, ◌==◌, drop, length, slice_index, slice_range, Option, Some, None}
+use Rattle.std.specs.Prelude.{◌≡◌, ◌⊎◌, ℕ, ◌+◌, ◌-◌, ◌<◌, ◌≤◌, List, [], ◌∷◌, ◌++◌, false, drop, length, slice_index, slice_range, Option, Some, None}
 use Rattle.base64.specs.Engines.{standard}
 use Rattle.base64.specs.GeneralPurpose.{encode_of}
 use Rattle.memchr.specs.Find.{OccursAt}
+use Rattle.sshkey_entries.specs.Fields.{is_white}
 use Rattle.sshkey_entries.specs.Fronts.{without_front}
 use Rattle.user_keys.specs.declared.marks.Marks.{Marks}
 use Rattle.sshkey_model.specs.Keys.{Key, Dsa, Ecdsa, Ed25519, Rsa, SkEcdsa, SkEd25519, Opaque}
@@ -27,10 +28,6 @@ abbrev pub mark : List ℕ → ℕ → List ℕ
 mark part after = encode_of standard (slice_range part (length part - (15 + after)) (length part - after))
 
 -- ---- where it stands
-
--- a vertical tab, a form feed or a carriage return: white space that ends no word
-abbrev pub is_white : ℕ → Bool
-is_white c = c == 0x0b || c == 0x0c || c == 0x0d
 
 -- The symbols come first in the text, white space before each aside.
 abbrev pub Follow : List ℕ → List ℕ → Type 0

@@ -8,7 +8,7 @@ use Rattle.login_terms.specs.Terms.{Terms, all_permitted, no_terms, none_permitt
 use Rattle.sshkey_model.specs.CertificateExamples.{openssh_certificate}
 use Rattle.sshkey_model.specs.Certificates.{Certificate}
 use Rattle.sshkey_model.specs.Options.{CertificateOption}
-use Rattle.sshkey_times.specs.declared.times.Span.{Span}
+use Rattle.sshkey_matching.specs.declared.times.Span.{Span}
 use Rattle.user_keys.specs.Certificates.{both_permit, judged_with, merged, merged_with, name_for}
 use Rattle.user_keys.specs.Judgements.{Judges, LetsFrom}
 use Rattle.user_keys.specs.PrincipalLogins.{judged_in_place}

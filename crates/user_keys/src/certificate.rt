@@ -1,20 +1,19 @@
 //! Whether a certificate lets its holder in, by an authority that authorized_keys lists.
 
-ghost use Rattle.std.specs.Prelude.{◌≡◌, ◌≢◌, IfErr, IfOk, IsTrue, None};
+ghost use Rattle.std.specs.Prelude.{◌≡◌, ◌≢◌, IfErr, IfOk, IsTrue};
 ghost use Rattle.openssh_limits.specs.Keys.{openssh_accepts_key};
 ghost use Rattle.login_terms.specs.Terms.{terms_of};
 ghost use Rattle.sshkey_cert.specs.CertificateValues.{certificate_of};
-ghost use Rattle.sshkey_keys.specs.Keys.{key_of};
 ghost use Rattle.sshkey_model.specs.Certificates.{IsCertificate};
-ghost use Rattle.sshkey_model.specs.Keys.{IsKey};
-ghost use Rattle.sshkey_padding.specs.Padding.{padding};
+ghost use Rattle.openssh_limits.specs.Padding.{padding};
 ghost use Rattle.user_keys.specs.Answers.{GrantsExactly, IsWhyNoLine};
-ghost use Rattle.user_keys.specs.CertificateLogins.{AdmitsCertificate, FindsLine, IsAsStrictWith, IsLineFor, IsWhyNoCertificate, NeedsMemory, by, login_with};
+ghost use Rattle.user_keys.specs.CertificateLogins.{AdmitsCertificate, FindsLine, IsAsStrictWith, IsLineFor, IsWhyNoCertificate, NeedsMemory, login_with};
 ghost use Rattle.user_keys.specs.Certificates.{judged_by, judged_with};
-ghost use Rattle.user_keys.specs.UserLogins.{login_of};
+ghost use Rattle.user_keys.specs.UserLogins.{OfCertificate, login_of};
 ghost use Rattle.user_keys.specs.declared.refusal.UserRefusal.TheVariants as refusal;
 
 use crate::answer::Judgement;
+use crate::credential::Credential;
 use crate::first_line::first_grant;
 use crate::grant::{NamedLine, UserGrant};
 use crate::login::UserLogin;
@@ -30,13 +29,13 @@ use sshkey_keys::RawVerifier;
 use sshkey_krl::Revocations;
 use std::alloc::Global;
 
-/// Lets in who holds the offered key, if the bytes are its certificate, and a line `cert-authority`
-/// of the text of authorized_keys, as sshd(8) reads it, has the key that signed it, and allows the
-/// certificate, the place and the time. The first such line counts. The certificate is judged as by
-/// `login_policy::log_in`, with that authority alone, for the user, or for the first of the names
-/// in the line's `principals` that it lists. The grant is what both say: a command of either, and
-/// where there are two the same; what both permit; and a touch or a verified user where one of them
-/// asks for it.
+/// Lets in who holds the key that is certified, if the bytes are a certificate, and a line
+/// `cert-authority` of the text of authorized_keys, as sshd(8) reads it, has the key that signed it,
+/// and allows the certificate, the place and the time. The first such line counts. The certificate
+/// is judged as by `login_policy::log_in`, with that authority alone, for the user, or for the first
+/// of the names in the line's `principals` that it lists. The grant is what both say: a command of
+/// either, and where there are two the same; what both permit; and a touch or a verified user where
+/// one of them asks for it.
 ///
 /// A line that refuses is passed over, as is one that sshd rejects (`log_in_by_key`).
 ///
@@ -62,7 +61,6 @@ pub fn log_in_by_certificate<R: Revocations, V: RawVerifier>(
     revocations: &R,
     verifier: &V,
 ) -> Result<UserGrant, UserRefusal>
-    requires { IsKey (key_of login.now.offered.now) }
     ensures exactly { GrantsExactly (AdmitsCertificate (login_with login.now certificate.now
         (padding (V.accepts verifier.now)) (R.revokes revocations.now))) result }
     ensures as_strict { IfOk result (IsAsStrictWith (login_with login.now certificate.now
@@ -75,7 +73,7 @@ pub fn log_in_by_certificate<R: Revocations, V: RawVerifier>(
 {
     one_certificate();
     let read = read_certificate(alloc, certificate)?;
-    let first = first_grant(alloc, login, Some(&read))?;
+    let first = first_grant(alloc, login, Credential::Certificate(&read))?;
     // a line that lets the certificate in does so for a name
     let Some(name) = name_listed(read.valid_principals(), login.user, &first.terms.principals)
     else {
@@ -110,12 +108,12 @@ pub fn find_authority_line(
     requires certificate { IsCertificate (certificate_of certificate.now) }
     requires accepted { IsTrue (openssh_accepts_key 0
         (certificate_of certificate.now).signed.signature_key) }
-    ensures exactly { FindsLine (IsLineFor (login_of login.now None)
+    ensures exactly { FindsLine (IsLineFor (login_of login.now)
         (certificate_of certificate.now)) result }
-    ensures refused { IfErr result (λ r. r ≢ refusal.Memory
-        → IsWhyNoLine (by (login_of login.now None) (certificate_of certificate.now)) r) }
+    ensures refused { IfErr result (λ r. r ≢ refusal.Memory → IsWhyNoLine (login_of login.now)
+        (OfCertificate (certificate_of certificate.now)) r) }
 {
-    let first = first_grant(alloc, login, Some(certificate))?;
+    let first = first_grant(alloc, login, Credential::Certificate(certificate))?;
     // a line that lets the certificate in does so for a name
     let Some(name) = name_listed(
         certificate.valid_principals(),
@@ -140,7 +138,7 @@ pub(crate) fn judgement_with(
         alone }
 {
     let agreed = agree(
-        &terms.command,
+        terms.shown_command(),
         certificate.critical_options().get("force-command"),
     );
     let name = name_listed(certificate.valid_principals(), user, &terms.principals);

@@ -3,7 +3,7 @@
 
 ghost use Rattle.user_keys.specs.EdgeExamples.{AdmittedCertificates, AdmittedKeys, Breaks, FirstLets, FirstLines, HasNames, KeyNames, LinesOfPrincipals, OddLines, OptionsOfLines, PassedOver, Places, RefusedLines, Spelled};
 ghost use Rattle.user_keys.specs.Examples.{Listed, Marks, Merged, Names, Times, Together, White};
-ghost use Rattle.user_keys.specs.LoginExamples.{Entries, FirstRefused, LetsCertificate, LetsKey, LineEnds, MayLetIn, OddEntries, Parts, Restricted, WhiteSpace};
+ghost use Rattle.user_keys.specs.LoginExamples.{Entries, FirstRefused, LetsCertificate, LetsKey, LineEnds, MayLetIn, OddEntries, Parts, Restricted};
 ghost use Rattle.user_keys.specs.TermExamples.{Asked, Certified, Commands, Decided, Expiry, From, Misplaced, Named, Permitted, PrincipalLines, Principals, Strictest};
 
 /// Until when a line counts.
@@ -104,11 +104,6 @@ pub fn principal_lines()
 /// The parts by which keys are sought.
 pub fn parts()
     ensures { Parts }
-{}
-
-/// White space within Base64.
-pub fn white_space()
-    ensures { WhiteSpace }
 {}
 
 /// Where a line ends.

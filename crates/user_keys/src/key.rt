@@ -5,18 +5,20 @@ ghost use Rattle.openssh_limits.specs.Keys.{openssh_accepts_key};
 ghost use Rattle.sshkey_keys.specs.Keys.{key_of};
 ghost use Rattle.sshkey_model.specs.Keys.{IsKey};
 ghost use Rattle.user_keys.specs.Answers.{AsksOfKey, GrantsExactly, IsWhyNoKey, IsWhyNoLine};
-ghost use Rattle.user_keys.specs.UserLogins.{Admits, GrantsFirst, IsAsStrict, login_of};
+ghost use Rattle.user_keys.specs.UserLogins.{Admits, GrantsFirst, IsAsStrict, OfKey, login_of};
 ghost use Rattle.user_keys.specs.declared.refusal.UserRefusal.TheVariants as refusal;
 
+use crate::credential::Credential;
 use crate::first_line::first_grant;
 use crate::grant::UserGrant;
 use crate::login::UserLogin;
 use crate::refusal::UserRefusal;
 use openssh_limits::openssh_accepts_key;
+use sshkey_keys::KeyData;
 use sshkey_krl::Revocations;
 use std::alloc::Global;
 
-/// Lets in who holds the offered key, if a line of the text of authorized_keys, as sshd(8) reads
+/// Lets in who holds the key that is offered, if a line of the text of authorized_keys, as sshd(8) reads
 /// it, has the key, is of no authority (`cert-authority`), and allows the place and the time. The
 /// first such line counts, and the grant is what its options say: `login_terms` says of each option
 /// whether sshd reads it, rejects the line, or whether that cannot be told.
@@ -36,7 +38,7 @@ use std::alloc::Global;
 /// and on its terms; before 10.5 on these but for tunnels, which `restrict` left.
 ///
 /// A time without `Z` cannot be told from 14 hours before the same time of UTC to 13 hours after
-/// it. Where `from` has a fault (`sshkey_addresses::FromFault`), its line cannot be told. A line may
+/// it. Where `from` has a fault (`sshkey_matching::FromFault`), its line cannot be told. A line may
 /// be for the key, though it is no entry of it, where the key may be spelled in it: with white space
 /// within its Base64, or other names and needless zeros before its point or its last number; or in
 /// a line that is no UTF-8.
@@ -46,26 +48,28 @@ use std::alloc::Global;
 pub fn log_in_by_key<R: Revocations>(
     alloc: Global,
     login: &UserLogin,
+    key: &KeyData,
     revocations: &R,
 ) -> Result<UserGrant, UserRefusal>
-    requires { IsKey (key_of login.now.offered.now) }
+    requires { IsKey (key_of key.now) }
     ensures exactly { GrantsExactly
-        (Admits (login_of login.now None) (R.revokes_key revocations.now)) result }
-    ensures as_strict { IfOk result (IsAsStrict (login_of login.now None)) }
-    ensures refused { IfErr result (λ r. r ≢ refusal.Memory
-        → IsWhyNoKey (login_of login.now None) (R.revokes_key revocations.now) r) }
-    ensures asks { AsksOfKey (login_of login.now None) (R.revokes_none revocations.now) result }
+        (Admits (login_of login.now) (key_of key.now) (R.revokes_key revocations.now)) result }
+    ensures as_strict { IfOk result (IsAsStrict (login_of login.now) (OfKey (key_of key.now))) }
+    ensures refused { IfErr result (λ r. r ≢ refusal.Memory → IsWhyNoKey (login_of login.now)
+        (key_of key.now) (R.revokes_key revocations.now) r) }
+    ensures asks { AsksOfKey (login_of login.now) (key_of key.now)
+        (R.revokes_none revocations.now) result }
 {
-    if !openssh_accepts_key(login.offered, login.least_rsa_bits) {
+    if !openssh_accepts_key(key, login.least_rsa_bits) {
         return Err(UserRefusal::UnacceptedKey);
     }
-    let Ok(is_revoked) = revocations.is_key_revoked(alloc, login.offered) else {
+    let Ok(is_revoked) = revocations.is_key_revoked(alloc, key) else {
         return Err(UserRefusal::Memory);
     };
     if is_revoked {
         return Err(UserRefusal::Revoked);
     }
-    first_grant(alloc, login, None)
+    first_grant(alloc, login, Credential::Key(key))
 }
 
 /// The first line of the text that lets the key in, and what its options say, as `log_in_by_key`
@@ -73,14 +77,18 @@ pub fn log_in_by_key<R: Revocations>(
 ///
 /// Unless memory runs out, it fails with `Unclear`, `NotAllowed` or `NotListed`, as `log_in_by_key`
 /// does.
-pub fn find_key_line(alloc: Global, login: &UserLogin) -> Result<UserGrant, UserRefusal>
-    requires key { IsKey (key_of login.now.offered.now) }
-    requires accepted { IsTrue (openssh_accepts_key login.now.least_rsa_bits
-        (key_of login.now.offered.now)) }
-    ensures exactly { GrantsExactly (GrantsFirst (login_of login.now None)) result }
+pub fn find_key_line(
+    alloc: Global,
+    login: &UserLogin,
+    key: &KeyData,
+) -> Result<UserGrant, UserRefusal>
+    requires key { IsKey (key_of key.now) }
+    requires accepted { IsTrue (openssh_accepts_key login.now.least_rsa_bits (key_of key.now)) }
+    ensures exactly { GrantsExactly
+        (GrantsFirst (login_of login.now) (OfKey (key_of key.now))) result }
     ensures by_key { IfOk result (λ g. g.certified ≡ None) }
     ensures refused { IfErr result (λ r. r ≢ refusal.Memory
-        → IsWhyNoLine (login_of login.now None) r) }
+        → IsWhyNoLine (login_of login.now) (OfKey (key_of key.now)) r) }
 {
-    first_grant(alloc, login, None)
+    first_grant(alloc, login, Credential::Key(key))
 }

@@ -1,6 +1,5 @@
 //! What is known of a login that is asked for.
 
-use sshkey_keys::KeyData;
 use std::net::IpAddr;
 
 /// A login that is asked for, and what is known of it.
@@ -13,8 +12,6 @@ pub struct UserLogin<'a> {
     /// The name of the user who is to be let in. Only a certificate is asked about it, by
     /// authorized_keys.
     pub user: &'a str,
-    /// The key under which the client has signed.
-    pub offered: &'a KeyData,
     /// The address of the client's socket, and no header of a proxy's. `None` if it has none: what
     /// `from` says then cannot be told.
     pub client: Option<IpAddr>,

@@ -36,15 +36,12 @@ pub fn merged(first: UserGrant, login: login_policy::Grant) -> UserGrant
         key_id,
         authority,
     } = login;
-    if terms.command.is_none() {
-        terms.command = force_command;
-    }
     terms.permissions = both_permit(terms.permissions, &extensions);
     terms.touch_required = terms.touch_required || touch_required;
     terms.verify_required = terms.verify_required || verify_required;
     UserGrant {
         line,
-        terms,
+        terms: terms.with_forced_command(force_command),
         certified: Some(Certified {
             serial,
             key_id,
@@ -54,12 +51,12 @@ pub fn merged(first: UserGrant, login: login_policy::Grant) -> UserGrant
 }
 
 /// Whether a line's command and that of a certificate are the same, where there are both.
-pub(crate) fn agree(command: &Option<String>, other: Option<&str>) -> bool
-    ensures { result ≡ agree (option_map string_bytes command.now)
+pub(crate) fn agree(command: Option<&str>, other: Option<&str>) -> bool
+    ensures { result ≡ agree (option_map (λ t. t.now) command.entry)
         (option_map (λ t. t.now) other.entry) }
 {
     match (command, other) {
-        (Some(command), Some(other)) => command.as_str() == other,
+        (Some(command), Some(other)) => command == other,
         (None, _) | (_, None) => true,
     }
 }

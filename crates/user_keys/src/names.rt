@@ -2,7 +2,7 @@
 
 ghost use Rattle.std.specs.List.{list_any};
 ghost use Rattle.std.specs.Prelude.{◌≡◌, IfSome, None, bytes_eq, false, map, option_map, position, string_bytes};
-ghost use Rattle.sshkey_addresses.specs.SourceAddresses.{SplitsPiece, pieces};
+ghost use Rattle.sshkey_matching.specs.SourceAddresses.{SplitsPiece, pieces};
 ghost use Rattle.user_keys.specs.Certificates.{first_listed, name_listed};
 
 /// Whom a certificate with these names lets in as the user: the user, if it lists that name; or,

@@ -1,12 +1,12 @@
 //! From where a line lets in.
 
 ghost use Rattle.std.specs.Prelude.{◌≡◌, ◌≢◌, IfOk, Some, option_map, string_bytes};
-ghost use Rattle.sshkey_addresses.specs.declared.from.FromFault.TheVariants.{Memory};
+ghost use Rattle.sshkey_matching.specs.declared.from.FromFault.TheVariants.{Memory};
 ghost use Rattle.user_keys.specs.Judgements.{LetsFrom};
 ghost use Rattle.user_keys.specs.declared.answer.Answer.TheVariants.{Unclear};
 
 use crate::answer::Answer;
-use sshkey_addresses::{FromFault, from_allows_at};
+use sshkey_matching::{FromFault, from_allows_at};
 use std::alloc::{AllocError, Global};
 use std::net::IpAddr;
 

@@ -5,9 +5,7 @@ ghost use Rattle.openssh_limits.specs.Keys.{openssh_accepts_key};
 ghost use Rattle.sshkey_model.specs.Certificates.{certificate_format, SpellsCertificate};
 ghost use Rattle.sshkey_cert.specs.CertificateValues.{certificate_of};
 ghost use Rattle.sshkey_cert.specs.Validity.{fingerprints_of};
-ghost use Rattle.sshkey_keys.specs.Keys.{key_of};
-ghost use Rattle.sshkey_model.specs.Keys.{IsKey};
-ghost use Rattle.sshkey_padding.specs.Padding.{padding};
+ghost use Rattle.openssh_limits.specs.Padding.{padding};
 ghost use Rattle.user_keys.specs.CertificateLogins.{IsWhyUnread, PolicyGrants, RefusesByPolicy, client_of, login_with, policy_login};
 ghost use Rattle.user_keys.specs.declared.refusal.UserRefusal.TheVariants as refusal;
 
@@ -49,7 +47,6 @@ pub(crate) fn log_in_as<R: Revocations, V: RawVerifier>(
     revocations: &R,
     verifier: &V,
 ) -> Result<login_policy::Grant, UserRefusal>
-    requires { IsKey (key_of login.now.offered.now) }
     ensures exactly { PolicyGrants (policy_login (login_with login.now certificate.now
         (padding (V.accepts verifier.now)) (R.revokes revocations.now))
         (fingerprints_of authorities.now) name.now) result }
@@ -63,7 +60,6 @@ pub(crate) fn log_in_as<R: Revocations, V: RawVerifier>(
         &Login {
             certificate,
             user: name,
-            offered: login.offered,
             unix_timestamp: login.unix_timestamp,
             authorities,
             least_rsa_bits: login.least_rsa_bits,

@@ -2,14 +2,12 @@
 //! file of principals.
 
 ghost use Rattle.std.specs.List.{Any};
-ghost use Rattle.std.specs.Prelude.{◌≡◌, ◌≢◌, IfErr, IfOk, IsTrue, None, option_map};
+ghost use Rattle.std.specs.Prelude.{◌≡◌, ◌≢◌, IfErr, IfOk, IsTrue, option_map};
 ghost use Rattle.sshkey_entries.specs.Readings.{Tells};
 ghost use Rattle.login_terms.specs.Terms.{terms_of};
 ghost use Rattle.sshkey_cert.specs.CertificateValues.{certificate_of};
 ghost use Rattle.sshkey_cert.specs.Validity.{fingerprints_of};
-ghost use Rattle.sshkey_keys.specs.Keys.{key_of};
-ghost use Rattle.sshkey_model.specs.Keys.{IsKey};
-ghost use Rattle.sshkey_padding.specs.Padding.{padding};
+ghost use Rattle.openssh_limits.specs.Padding.{padding};
 ghost use Rattle.user_keys.specs.Answers.{GrantsExactly};
 ghost use Rattle.user_keys.specs.CertificateLogins.{FindsLine};
 ghost use Rattle.user_keys.specs.PrincipalLogins.{AdmitsPrincipal, ChecksTerms, FindsDecision, IsAsStrictInPlace, IsPrincipalLine, IsWhyNoPrincipal, IsWhyUndecided, NeedsMemoryInPlace, judged_in_place, login_in_place, principal_login};
@@ -36,12 +34,12 @@ use sshkey_keys::{Fingerprint, RawVerifier};
 use sshkey_krl::Revocations;
 use std::alloc::{AllocError, Global};
 
-/// Lets in who holds the offered key, if the bytes are its certificate, and a line of the text, as
-/// sshd(8) reads the file that AuthorizedPrincipalsFile names (sshd_config(5)), is for a principal
-/// that it lists, and allows the certificate, the place and the time. The authorities are those of
-/// TrustedUserCAKeys, by the SHA-256 fingerprints of their keys. The certificate is judged as by
-/// `login_policy::log_in`, with these, for that principal: the user is not asked about. The grant is
-/// what the line and the certificate say together, as of `log_in_by_certificate`.
+/// Lets in who holds the key that is certified, if the bytes are a certificate, and a line of the
+/// text, as sshd(8) reads the file that AuthorizedPrincipalsFile names (sshd_config(5)), is for a
+/// principal that it lists, and allows the certificate, the place and the time. The authorities are
+/// those of TrustedUserCAKeys, by the SHA-256 fingerprints of their keys. The certificate is judged
+/// as by `login_policy::log_in`, with these, for that principal: the user is not asked about. The
+/// grant is what the line and the certificate say together, as of `log_in_by_certificate`.
 ///
 /// The first line for such a principal decides: if it refuses, no other lets in, of another file
 /// neither. So ask about one file after the other as long as the answer is `NotListed`. A line
@@ -73,7 +71,6 @@ pub fn log_in_by_principal<R: Revocations, V: RawVerifier>(
     revocations: &R,
     verifier: &V,
 ) -> Result<UserGrant, UserRefusal>
-    requires { IsKey (key_of login.now.offered.now) }
     ensures exactly { GrantsExactly (AdmitsPrincipal (principal_login login.now certificate.now
         (padding (V.accepts verifier.now)) (R.revokes revocations.now))
         (fingerprints_of authorities.now)) result }
@@ -215,7 +212,7 @@ fn check_terms(
     login: &UserLogin,
     certificate: &Certificate,
 ) -> Result<(), UserRefusal>
-    ensures { ChecksTerms (login_of login.now None) (certificate_of certificate.now)
+    ensures { ChecksTerms (login_of login.now) (certificate_of certificate.now)
         first.now.line (terms_of first.now.terms) result }
 {
     let line = first.line;
@@ -235,7 +232,7 @@ fn judged_in_place(terms: &Terms, certificate: &Certificate, alone: Judgement) -
         return Judgement::Refuses(Reason::MisplacedOption);
     }
     let agreed = agree(
-        &terms.command,
+        terms.shown_command(),
         certificate.critical_options().get("force-command"),
     );
     judged_by(agreed, true, alone)

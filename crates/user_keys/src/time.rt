@@ -3,7 +3,7 @@
 ghost use Rattle.user_keys.specs.Judgements.{CountsAt};
 
 use crate::answer::Answer;
-use sshkey_times::Span;
+use sshkey_matching::Span;
 
 /// Whether a line with that `expiry-time` counts at the second: through the last one.
 pub(crate) fn counts_at(expires: Option<Span>, unix_timestamp: u64) -> Answer

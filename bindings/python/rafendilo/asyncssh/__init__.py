@@ -84,8 +84,8 @@ def _bind(conn: Any, grant: Grant) -> None:
     conn.set_extra_info(grant=grant)
     options: dict[str, object] = {name: True for name, permit in FORBIDDEN.items() if permit not in grant.permits}
     options["permitopen"] = _Places(grant)
-    if grant.shown_command is not None:
-        options["command"] = grant.shown_command
+    if (command := grant.runs(None)) is not None:
+        options["command"] = command
     setattr(conn, "get_key_option", lambda option, default=None: options.get(option, default))
     setattr(conn, "check_key_permission", lambda permission: f"no-{permission}" not in options)
 

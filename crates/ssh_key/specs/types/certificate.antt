@@ -13,4 +13,4 @@ pub use Rattle.sshkey_cert_values.specs.declared.cert_type.CertType
 pub use Rattle.sshkey_cert_values.specs.declared.end_time.EndTime
 pub use Rattle.sshkey_cert_values.specs.declared.options_map.OptionsMap
 pub use Rattle.sshkey_cert_values.specs.declared.unix_time.UnixTime
-pub use Rattle.sshkey_cert_fields.specs.declared.certificate_fields.CertificateFields
+pub use Rattle.sshkey_cert_values.specs.declared.certificate_fields.CertificateFields

@@ -1,1 +1,1 @@
-pub use Rattle.sshkey_patterns.specs.declared.pattern.LetterCase
+pub use Rattle.sshkey_matching.specs.declared.pattern.LetterCase

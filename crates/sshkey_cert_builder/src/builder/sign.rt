@@ -6,7 +6,7 @@ ghost use Rattle.sshkey_model.specs.Drafts.{IsSignedDraft, drafted, or_default};
 ghost use Rattle.sshkey_model.specs.Fingerprints.{fingerprint};
 ghost use Rattle.sshkey_model.specs.Names.{Sha256};
 ghost use Rattle.sshkey_cert_builder.specs.Builders.{IsValidExactlyIn, MaySignDraft, draft_of, given_key, no_principals};
-ghost use Rattle.sshkey_cert_fields.specs.ToBeSignedValues.{to_be_signed_of};
+ghost use Rattle.sshkey_cert_values.specs.ToBeSignedValues.{to_be_signed_of};
 ghost use Rattle.sshkey_cert.specs.CertificateValues.{certificate_of, certified_key_of, comment_of};
 ghost use Rattle.sshkey_cert.specs.Signing.{RefusesToSign};
 
@@ -14,8 +14,7 @@ use super::Builder;
 use sshkey_base::certificate::Field;
 use sshkey_base::{Bytes, Error, Result, Text};
 use sshkey_cert::Certificate;
-use sshkey_cert_fields::CertificateFields;
-use sshkey_cert_values::CertType;
+use sshkey_cert_values::{CertType, CertificateFields};
 use sshkey_keys::{KeyData, SigningKey};
 use std::alloc::Global;
 

@@ -49,8 +49,8 @@ pub mod terms {
 /// Which keys hosts have.
 pub mod known_hosts {
     pub use ssh_key::known_hosts::{
-        Entry, HmacSha1, HostHasher, HostPatterns, KnownHosts, Marker, OpenSshKnownHosts, Verdict,
-        authorities, key_verdict, unreadable_line,
+        Entry, HeldLine, HmacSha1, HostHasher, HostPatterns, KnownHosts, Marker, OpenSshKnownHosts,
+        Verdict, authorities, hold_lines, key_verdict, texts_for, unreadable_line,
     };
 }
 
@@ -180,6 +180,7 @@ pub mod laws {
     pub use ssh_key::laws::normal_signatures;
     pub use ssh_key::laws::normal_ssh_signatures;
     pub use ssh_key::laws::normal_texts;
+    pub use ssh_key::laws::one_armour;
     pub use ssh_key::laws::one_authorized_key;
     pub use ssh_key::laws::one_authorized_line;
     pub use ssh_key::laws::one_certificate;

@@ -6,7 +6,7 @@ use Rattle.sshkey_krl.specs.Revocations.{is_key_revoked}
 use Rattle.sshkey_model.specs.Keys.{Key}
 use Rattle.sshkey_model.specs.SshSignatures.{SshSignature}
 use Rattle.sshkey_sshsig.specs.SshSignatures.{ssh_signature_of}
-use Rattle.sshkey_padding.specs.Padding.{padding}
+use Rattle.openssh_limits.specs.Padding.{padding}
 use Rattle.allowed_signers.specs.AllowedSigners.{Counts, HasSigned, IsAllowed}
 use Rattle.allowed_signers.proofs.Decisions.{nothing_counts}
 use Rattle.allowed_signers.proofs.signers.verify.Goals as goal

@@ -5,8 +5,8 @@ use Rattle.sshkey_model.specs.Certificates.{Certificate, SpellsCertificate, norm
 use Rattle.sshkey_model.specs.Parts.{flat}
 use Rattle.sshkey_model.specs.Verification.{Question}
 use Rattle.sshkey_base.proofs.Acceptance.{other_cause}
-use Rattle.sshkey_addresses.specs.Likeness.{is_like_address}
-use Rattle.sshkey_padding.specs.Padding.{padding}
+use Rattle.sshkey_matching.specs.Likeness.{is_like_address}
+use Rattle.openssh_limits.specs.Padding.{padding}
 use Rattle.host_keys.specs.Answers.{IsWhyUnknown, RefusesAsked, RefusesHostCertificate}
 use Rattle.host_keys.specs.Hosts.{HostCheck, IsHostCertificate, IsKnownBy, OfAsked, lines_of, login_of}
 use Rattle.host_keys.specs.declared.known_by.KnownBy.{KnownBy}

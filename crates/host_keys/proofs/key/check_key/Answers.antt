@@ -1,7 +1,7 @@
 use Rattle.std.proofs.Common.{◌≡◌, ℕ, true, IfErr, List, ap, inl, subst, sym}
 use Rattle.std.proofs.lemmas.Result.{err_from_is_err_and}
-use Rattle.sshkey_addresses.specs.AskedHosts.{IsAsked}
-use Rattle.sshkey_addresses.specs.Likeness.{is_like_address}
+use Rattle.sshkey_matching.specs.AskedHosts.{IsAsked}
+use Rattle.sshkey_matching.specs.Likeness.{is_like_address}
 use Rattle.sshkey_keys.specs.Keys.{key_of}
 use Rattle.host_keys.specs.Answers.{AsksOf, IsWhyNoKey, OkExactly}
 use Rattle.host_keys.specs.Hosts.{HostCheck, IsTrustedKey, login_of}

@@ -2,7 +2,7 @@ use Rattle.std.proofs.Common.{[], codes, refl, arith, lit<}
 use Rattle.std.proofs.lemmas.List.Elements.{All-cons, All-nil}
 use Rattle.std.specs.Net.Addr.{ipv4_bits, ipv6_bits}
 use Rattle.std.specs.Net.Reader.{read_ipv4, read_ipv6, read_number, read_octet, read_segment, read_segments}
-use Rattle.sshkey_addresses.proofs.Deciding.{decides_from, decides_networks}
+use Rattle.sshkey_matching.proofs.AddressTests.{decides_from, decides_networks}
 use Rattle.login_policy.specs.Examples.{at, fields, listed, login, option}
 use Rattle.login_policy.specs.KnownOptions.{Addresses, IsKnownOption, source_address}
 use Rattle.login_policy.specs.declared.client.Client.TheVariants.{LeftToCaller}

@@ -2,7 +2,7 @@ use Rattle.std.proofs.Common.{◌≡◌, [], ◌∷◌, true, codes, inr, refl, 
 use Rattle.std.proofs.lemmas.List.Elements.{All-cons, All-nil}
 use Rattle.std.specs.Net.Addr.{ipv4_bits, ipv6_bits}
 use Rattle.std.specs.Net.Reader.{read_ipv4, read_ipv6, read_number, read_octet, read_segment, read_segments}
-use Rattle.sshkey_addresses.proofs.Deciding.{decides_networks}
+use Rattle.sshkey_matching.proofs.AddressTests.{decides_networks}
 use Rattle.sshkey_cert.specs.declared.certificate.refusal.CertificateRefusal.TheVariants.{Principal, Window}
 use Rattle.sshkey_model.proofs.Refusals.{fingerprints_decided, found}
 use Rattle.sshkey_model.specs.CertificateExamples.{authority}

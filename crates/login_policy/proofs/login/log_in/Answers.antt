@@ -1,6 +1,6 @@
 use Rattle.std.proofs.lemmas.Result.{err_from_is_err_and}
 use Rattle.login_policy.specs.Logins.{login_of}
-use Rattle.sshkey_padding.specs.Padding.{padding}
+use Rattle.openssh_limits.specs.Padding.{padding}
 use Rattle.login_policy.proofs.Pendings.{decided, memory_for, pends, refused_last, refused_unasked}
 use Rattle.login_policy.proofs.login.log_in.Goals as goal
 

@@ -1,6 +1,6 @@
 use Rattle.std.proofs.Common.{◌≡◌, arith, inl, rules}
-use Rattle.sshkey_times.specs.Times.{days_of_months, days_of_years}
-use Rattle.sshkey_times.proofs.Calendar.{years}
+use Rattle.sshkey_matching.specs.Times.{days_of_months, days_of_years}
+use Rattle.sshkey_matching.proofs.Calendar.{years}
 use Rattle.login_terms.proofs.examples.before_epoch.Goals as goal
 
 to_1900 : days_of_years 1900 ≡ 693961

@@ -5,10 +5,10 @@ use Rattle.publickey_login.proofs.examples.first_refusals.Goals as goal
 
 pub returns : goal.returns
 unfolding IsOfFirst ArePassed
-returns c = λ u over elsewhere both. (
-  (1, refl, (nothing u, both.third)),
+returns c = λ u k over elsewhere both. (
+  (1, refl, (nothing u k, both.third)),
   (0, refl, both.first),
-  (nothing u, tt),
-  not_silent u over elsewhere both,
-  only_first u over elsewhere both,
+  (nothing u k, tt),
+  not_silent u k over elsewhere both,
+  only_first u k over elsewhere both,
 )

@@ -24,5 +24,5 @@ returns c = λ over elsewhere both.
       (at (source.AuthorizedKeys 0) 1 Elsewhere, at (source.Principals 0) 3 Expired, None, (0, refl, both.first), inr (trusted, (0, refl, both.third)), tt, refl),
       (None, None, at (source.Command 0) 1 Elsewhere, tt, inl (refl, refl), (0, refl, both.first), refl),
       (None, None, None, tt, inr (also, refl), tt, refl),
-      (λ a. never_told (user_of trusting_all certificate.signed.key) (AuthorityLine certificate) untrusting certificate (record { source = source.Principals 0; line = 3; reason = Expired }) refl a.0 a.1 a.2 a.3 a.4 a.5 a.6),
+      (λ a. never_told (user_of trusting_all) (AuthorityLine certificate) untrusting certificate (record { source = source.Principals 0; line = 3; reason = Expired }) refl a.0 a.1 a.2 a.3 a.4 a.5 a.6),
     )

@@ -11,10 +11,10 @@ use Rattle.publickey_login.proofs.examples.refused_keys.Goals as goal
 pub returns : goal.returns
 unfolding IsOfFirst ArePassed
 returns c = λ k over elsewhere both.
-    let u = user_of trusting_all k in (
+    let u = user_of trusting_all in (
       (at (source.AuthorizedKeys 0) 3 Expired, at (source.Command 0) 1 Elsewhere, (0, refl, both.third), (0, refl, both.first), refl),
-      (None, at (source.Command 0) 1 Elsewhere, (nothing u, tt), (0, refl, both.first), refl),
-      (None, None, (nothing u, tt), tt, refl),
-      (λ a. never_unlisted u over elsewhere both a.0 a.1 a.3 a.4),
+      (None, at (source.Command 0) 1 Elsewhere, (nothing u k, tt), (0, refl, both.first), refl),
+      (None, None, (nothing u k, tt), tt, refl),
+      (λ a. never_unlisted u k over elsewhere both a.0 a.1 a.3 a.4),
       refl,
     )

@@ -25,9 +25,8 @@ returns-in_err-source g c =
     let asks = c.user_login-login.ensures.login (g.R.Revocations.revokes c.args.revocations.now) (g.R.Revocations.revokes_key c.args.revocations.now) in
     let accepted : openssh_accepts_key 0 k.signed.signature_key ≡ true = ap (λ (x : Key). openssh_accepts_key 0 x) (sym c.signature_key.ensures.value) ∙ sym c.openssh_accepts_key.ensures ∙ c.if-not-openssh_accepts_key.false in
     let is_own : key_of c.in-Ok.key ≡ k.signed.key = c.in-Ok.ensures.value ∙ c.public_key.ensures.value in
-    let own : key_of c.user_login-login.result.offered.now ≡ k.signed.key = ap (λ (x : KeyData). key_of x) c.user_login-login.ensures.key ∙ is_own in
     let p = err_from_is_err_and c.from_residual.result c.from_residual.ensures.1 in
-    rw (p.1, p.2) (λ other. (k, c.requires, inr (accepted, inl (c.in_err-source.ensures l asks own other))))
+    rw (p.1, p.2) (λ other. (k, c.requires, inr (accepted, inl (c.in_err-source.ensures l asks other))))
 
 pub returns-in-Err : goal.returns-in-Err
 returns-in-Err g c = λ other.
@@ -36,12 +35,11 @@ returns-in-Err g c = λ other.
     let asks = c.user_login-login.ensures.login (g.R.Revocations.revokes c.args.revocations.now) (g.R.Revocations.revokes_key c.args.revocations.now) in
     let accepted : openssh_accepts_key 0 k.signed.signature_key ≡ true = ap (λ (x : Key). openssh_accepts_key 0 x) (sym c.signature_key.ensures.value) ∙ sym c.openssh_accepts_key.ensures ∙ c.if-not-openssh_accepts_key.false in
     let is_own : key_of c.in-Ok.key ≡ k.signed.key = c.in-Ok.ensures.value ∙ c.public_key.ensures.value in
-    let own : key_of c.user_login-login.result.offered.now ≡ k.signed.key = ap (λ (x : KeyData). key_of x) c.user_login-login.ensures.key ∙ is_own in
-    let from = c.in_ok-source.ensures l asks own in
+    let from = c.in_ok-source.ensures l asks in
     let found = found_of c.in_ok-source.field-0.line in
     let print = subst (λ (x : Key). IsFingerprint Sha256 x c.in_ok-fingerprint_of.field-0) c.signature_key-2.ensures.value c.in_ok-fingerprint_of.ensures.given in
     let authorities = authorities_are l k c.in_ok-source.field-0.source c.in_ok-fingerprint_of.field-0 c.args.trusted.now.authorities.now c.authorities_of.result.now c.authorities_of.ensures print refl in
-    let asked = same_policy l k (fingerprints_of c.authorities_of.result.now) (authorities_of l k c.in_ok-source.field-0.source) c.as_str.result.now found.name (key_of c.in-Ok.key) authorities c.as_str.ensures.value is_own in
+    let asked = same_policy l k (fingerprints_of c.authorities_of.result.now) (authorities_of l k c.in_ok-source.field-0.source) c.as_str.result.now found.name authorities c.as_str.ensures.value in
     let why = refused_policy c.in-Err.refusal c.refused_by.result c.refused_by.ensures other in
     let refused = subst (λ (x : policy.Login). RefusesLogin x c.in-Err.refusal) asked (c.in-Err.ensures.refused why.0) in
     (k, c.requires, inr (accepted, inr (c.in_ok-source.field-0.source, found, from, (c.in-Err.refusal, refused, why.1))))
@@ -53,12 +51,11 @@ returns g c =
     let asks = c.user_login-login.ensures.login (g.R.Revocations.revokes c.args.revocations.now) (g.R.Revocations.revokes_key c.args.revocations.now) in
     let accepted : openssh_accepts_key 0 k.signed.signature_key ≡ true = ap (λ (x : Key). openssh_accepts_key 0 x) (sym c.signature_key.ensures.value) ∙ sym c.openssh_accepts_key.ensures ∙ c.if-not-openssh_accepts_key.false in
     let is_own : key_of c.in-Ok.key ≡ k.signed.key = c.in-Ok.ensures.value ∙ c.public_key.ensures.value in
-    let own : key_of c.user_login-login.result.offered.now ≡ k.signed.key = ap (λ (x : KeyData). key_of x) c.user_login-login.ensures.key ∙ is_own in
-    let from = c.in_ok-source.ensures l asks own in
+    let from = c.in_ok-source.ensures l asks in
     let found = found_of c.in_ok-source.field-0.line in
     let print = subst (λ (x : Key). IsFingerprint Sha256 x c.in_ok-fingerprint_of.field-0) c.signature_key-2.ensures.value c.in_ok-fingerprint_of.ensures.given in
     let authorities = authorities_are l k c.in_ok-source.field-0.source c.in_ok-fingerprint_of.field-0 c.args.trusted.now.authorities.now c.authorities_of.result.now c.authorities_of.ensures print refl in
-    let asked = same_policy l k (fingerprints_of c.authorities_of.result.now) (authorities_of l k c.in_ok-source.field-0.source) c.as_str.result.now found.name (key_of c.in-Ok.key) authorities c.as_str.ensures.value is_own in
+    let asked = same_policy l k (fingerprints_of c.authorities_of.result.now) (authorities_of l k c.in_ok-source.field-0.source) c.as_str.result.now found.name authorities c.as_str.ensures.value in
     let p = c.in-Ok-pending_of.held in
     let pends = subst (λ (x : policy.Login). policies.PendsExactly x (Ok p)) asked c.in-Ok-pending_of.ensures.exactly in
     let held = held_certificate l k c.requires accepted c.in_ok-source.field-0.source found from p pends in

@@ -12,14 +12,14 @@ returns-in_err-source g c =
     let spelled = subst (SpellsKey (key_of c.in-Ok.key)) c.requires c.in-Ok.ensures.spelled in
     let p = err_from_is_err_and c.from_residual-in_err-source.result c.from_residual-in_err-source.ensures.1 in
     rw (p.1, p.2) (λ other.
-    let none = rw c.user_login-login.ensures.key at (c.in_err-source.ensures l asks other) in
+    let none = c.in_err-source.ensures l asks other in
     (key_of c.in-Ok.key, spelled, inr (inr (sym c.openssh_accepts_key.ensures ∙ c.if-not-openssh_accepts_key.false, sym c.in_ok-is_key_revoked.ensures.said ∙ c.if-branch.false, none))))
 
 pub returns : goal.returns
 returns g c =
     let l = (login_of c.args.offer.now c.args.trusted.now c.args.place.now (g.R.Revocations.revokes c.args.revocations.now) (g.R.Revocations.revokes_key c.args.revocations.now)) in
     let asks = c.user_login-login.ensures.login (g.R.Revocations.revokes c.args.revocations.now) (g.R.Revocations.revokes_key c.args.revocations.now) in
-    let from = rw c.user_login-login.ensures.key at (c.in_ok-source.ensures l asks) in (
+    let from = c.in_ok-source.ensures l asks in (
       record {
         spelled = subst (SpellsKey (key_of c.in-Ok.key)) c.requires c.in-Ok.ensures.spelled;
         accepted = sym c.openssh_accepts_key.ensures ∙ c.if-not-openssh_accepts_key.false;

@@ -1,6 +1,6 @@
 use Rattle.std.proofs.Common.{inl}
 use Rattle.std.proofs.lemmas.Result.{err_from_is_err_and}
-use Rattle.sshkey_padding.specs.Padding.{padding}
+use Rattle.openssh_limits.specs.Padding.{padding}
 use Rattle.publickey_login.specs.Values.{login_of, place_seen, signed_of}
 use Rattle.publickey_login.proofs.Pendings.{decided, refused}
 use Rattle.publickey_login.proofs.login.log_in.Goals as goal

@@ -1,4 +1,4 @@
-use Rattle.std.proofs.Common.{◌≡◌, ◌∙◌, ℕ, List, [], Bor, None, Option, ap, false, option_map, string_bytes, sym, true}
+use Rattle.std.proofs.Common.{◌≡◌, ◌∙◌, ℕ, List, [], Bor, Option, ap, false, option_map, string_bytes, sym, true}
 use Rattle.std.proofs.lemmas.Result.{err_from_is_err_and}
 use Rattle.login_terms.specs.Terms.{terms_of}
 use Rattle.sshkey_cert.specs.CertificateValues.{certificate_of}
@@ -31,4 +31,4 @@ returns-in_default-clause-refused c =
     λ other. absurd (no_name l k c.in_ok-first.first c.in_ok-first.ensures.exactly none)
 
 pub returns-in_err-name-clause-exactly : goal.returns-in_err-name-clause-exactly
-returns-in_err-name-clause-exactly c = ran_out (IsLineFor (login_of c.args.login.now None) (certificate_of c.args.certificate.now)) c.from_residual-in_err-name.result c.from_residual-in_err-name.ensures.1
+returns-in_err-name-clause-exactly c = ran_out (IsLineFor (login_of c.args.login.now) (certificate_of c.args.certificate.now)) c.from_residual-in_err-name.result c.from_residual-in_err-name.ensures.1

@@ -7,10 +7,10 @@ use Rattle.sshkey_keys.specs.Fingerprints.{IsFingerprint}
 use Rattle.sshkey_model.specs.Fingerprints.{Fingerprint}
 use Rattle.sshkey_model.specs.Keys.{IsKey, Key}
 use Rattle.sshkey_model.specs.Names.{Sha256}
-use Rattle.sshkey_padding.specs.Padding.{padding}
-use Rattle.user_keys.specs.CertificateLogins.{IsLineFor, PolicyGrants, RefusesByPolicy, by, login_with, policy_login, signer}
+use Rattle.openssh_limits.specs.Padding.{padding}
+use Rattle.user_keys.specs.CertificateLogins.{IsLineFor, PolicyGrants, RefusesByPolicy, login_with, policy_login, signer}
 use Rattle.user_keys.specs.Certificates.{name_for, name_listed}
-use Rattle.user_keys.specs.UserLogins.{Lets, MayLet}
+use Rattle.user_keys.specs.UserLogins.{Lets, MayLet, OfCertificate}
 use Rattle.user_keys.proofs.CertificateLogins.{admitted, no_line, no_name, one_name, own, spells, strict_by, unlisted, unread, unwanted}
 use Rattle.user_keys.proofs.LongParts.{long_part}
 use Rattle.user_keys.proofs.certificate.log_in_by_certificate.Goals as goal
@@ -141,4 +141,4 @@ returns-clause-as_strict g c =
     let granted = c.in_ok-first.ensures.exactly in
     let trusted : fingerprints_of (c.in-Ok.authority ∷ []) ≡ signer k = ap (λ (f : Fingerprint). f ∷ []) (own k.signed.signature_key c.in-Ok.authority (subst (λ (x : Key). IsFingerprint Sha256 x c.in-Ok.authority) c.signature_key.ensures.value c.in-Ok.ensures.gives)) in
     let policies = subst (λ (a : List Fingerprint). PolicyGrants (policy_login l a c.in-Some.name.now) (Ok c.in_ok-granted.granted)) trusted c.in_ok-granted.ensures.exactly in
-    strict_by one (IsLineFor l.login) signer l k spelled c.in_ok-first.first c.merged.result c.in-Some.name.now c.in_ok-granted.granted policies.0 policies.1 c.merged.ensures.line c.merged.ensures.terms (λ d. Lets (by l.login d)) (λ d. MayLet (by l.login d)) granted
+    strict_by one (IsLineFor l.login) signer l k spelled c.in_ok-first.first c.merged.result c.in-Some.name.now c.in_ok-granted.granted policies.0 policies.1 c.merged.ensures.line c.merged.ensures.terms (λ d. Lets l.login (OfCertificate d)) (λ d. MayLet l.login (OfCertificate d)) granted

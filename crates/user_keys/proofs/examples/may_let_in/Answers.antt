@@ -2,7 +2,7 @@ use Rattle.std.proofs.Common.{◌≡◌, ◌<◌, ◌⊎◌, ℕ, List, true, fa
 use Rattle.login_terms.specs.Terms.{Terms}
 use Rattle.user_keys.specs.Judgements.{Judges}
 use Rattle.user_keys.specs.Lines.{MayBeFor}
-use Rattle.user_keys.specs.LoginExamples.{by_key, other}
+use Rattle.user_keys.specs.LoginExamples.{by_key, login_at, other}
 use Rattle.user_keys.specs.TermExamples.{expiring}
 use Rattle.user_keys.specs.UserLogins.{IsOwn, MayLet}
 use Rattle.user_keys.specs.declared.answer.Judgement.TheVariants.{Unclear}
@@ -12,7 +12,7 @@ never : false ≡ true → ⊥
 never e = absurd cc
 
 -- a line that is over in some zone
-over : (line : List ℕ) (time : ℕ) → 10 < time → time < 21 → IsOwn (by_key time) line expiring → MayLet (by_key time) line
+over : (line : List ℕ) (time : ℕ) → 10 < time → time < 21 → IsOwn by_key line expiring → MayLet (login_at time) by_key line
 over line time first last own = inr (record {
   terms = expiring;
   own = own;
@@ -20,7 +20,7 @@ over line time first last own = inr (record {
 })
 
 -- one of which can be told whether it is
-told : (line : List ℕ) (time : ℕ) → (time < 11) ⊎ (20 < time) → (MayBeFor other line → ⊥) → ((t : Terms) → IsOwn (by_key time) line t → t ≡ expiring) → MayLet (by_key time) line → ⊥
+told : (line : List ℕ) (time : ℕ) → (time < 11) ⊎ (20 < time) → (MayBeFor other line → ⊥) → ((t : Terms) → IsOwn by_key line t → t ≡ expiring) → MayLet (login_at time) by_key line → ⊥
 told line time outside none only (inl may) = none may
 told line time outside none only (inr may) =
     let judged : Judges expiring time None None Unclear = subst (λ (t : Terms). Judges t time None None Unclear) (only may.terms may.own) may.may in

@@ -7,7 +7,7 @@ use Rattle.user_keys.proofs.examples.restricted.Goals as goal
 
 pub returns : goal.returns
 returns c = (
-  λ login g both strict. strict (λ t. t) takes_all (as_told login both (λ t. t) restricted refl),
-  λ login g both strict. strict but_tunnels leaves_tunnels (as_told login both but_tunnels (record restricted { permissions = record none_permitted { tunnels = true } }) refl),
-  λ login both. not_all login both,
+  λ login by g both strict. strict (λ t. t) takes_all (as_told login by both (λ t. t) restricted refl),
+  λ login by g both strict. strict but_tunnels leaves_tunnels (as_told login by both but_tunnels (record restricted { permissions = record none_permitted { tunnels = true } }) refl),
+  λ login by both. not_all login by both,
 )

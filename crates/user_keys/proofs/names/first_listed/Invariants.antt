@@ -1,7 +1,7 @@
 use Rattle.std.proofs.Common.{◌≡◌, length, map, string_bytes}
 use denote.Shadow.{shadow}
 use denote.Text.{Utf8}
-use Rattle.sshkey_addresses.specs.SourceAddresses.{pieces}
+use Rattle.sshkey_matching.specs.SourceAddresses.{pieces}
 use Rattle.user_keys.specs.Certificates.{first_listed}
 use Rattle.user_keys.proofs.names.first_listed.Given as goal
 

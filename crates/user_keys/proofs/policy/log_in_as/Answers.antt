@@ -4,7 +4,7 @@ use Rattle.login_policy.specs.Logins.{IsGrantOf, IsLogin}
 use Rattle.login_policy.specs.Logins as policy
 use Rattle.login_policy.specs.Refusals.{RefusesLogin}
 use Rattle.sshkey_cert.specs.Validity.{fingerprints_of}
-use Rattle.sshkey_padding.specs.Padding.{padding}
+use Rattle.openssh_limits.specs.Padding.{padding}
 use Rattle.user_keys.specs.CertificateLogins.{login_with}
 use Rattle.user_keys.proofs.CertificateLogins.{asked, other_refusal}
 use Rattle.user_keys.proofs.policy.log_in_as.Goals as goal

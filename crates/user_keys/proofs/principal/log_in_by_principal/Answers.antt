@@ -3,7 +3,7 @@ use Rattle.std.proofs.lemmas.Result.{err_from_is_err_and}
 use Rattle.login_terms.specs.Terms.{terms_of}
 use Rattle.sshkey_cert.specs.CertificateValues.{certificate_of}
 use Rattle.sshkey_cert.specs.Validity.{fingerprints_of}
-use Rattle.sshkey_padding.specs.Padding.{padding}
+use Rattle.openssh_limits.specs.Padding.{padding}
 use Rattle.user_keys.specs.PrincipalLogins.{DecidesFirst, IsPrincipalLine, principal_login}
 use Rattle.user_keys.specs.Principals.{Decides, MayDecide}
 use Rattle.user_keys.proofs.CertificateLogins.{admitted, strict_by, unlisted, unread, unwanted}

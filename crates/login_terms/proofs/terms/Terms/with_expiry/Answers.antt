@@ -1,7 +1,7 @@
 use Rattle.std.proofs.Common.{Some, List, ap, subst, ℕ}
 use Rattle.std.specs.Prelude.{string_bytes}
-use Rattle.sshkey_times.specs.Times.{IsTimeText}
-use Rattle.sshkey_times.specs.declared.times.Span.{Span}
+use Rattle.sshkey_matching.specs.Times.{IsTimeText}
+use Rattle.sshkey_matching.specs.declared.times.Span.{Span}
 use Rattle.sshkey_entries.specs.Readings.{Tells}
 use Rattle.login_terms.specs.Terms.{earlier, terms_of}
 use Rattle.login_terms.specs.Values.{MayBeTime}

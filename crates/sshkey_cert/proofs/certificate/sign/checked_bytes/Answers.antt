@@ -1,4 +1,4 @@
-use Rattle.sshkey_cert_fields.specs.ToBeSignedValues.{to_be_signed_of}
+use Rattle.sshkey_cert_values.specs.ToBeSignedValues.{to_be_signed_of}
 use Rattle.sshkey_cert.proofs.Signing.{blob_fits}
 use Rattle.sshkey_cert.proofs.certificate.sign.checked_bytes.Goals as goal
 

@@ -1,0 +1,67 @@
+-- How many bytes a frame holds, and how what follows a number is read.
+use Rattle.std.proofs.Common.{◌≡◌, ◌+◌, ℕ, length, IsErrAnd, Result, Ok, Err, ap, arith, refl}
+use Rattle.std.specs.Int.{w8}
+use Rattle.ssh_key.specs.base.Causes.{NoMemory, cause}
+use Rattle.ssh_key.specs.base.Formats.{Stops}
+use Rattle.ssh_key.specs.model.Formats.{Format}
+use Rattle.ssh_key.specs.base.Needs.{Asks}
+use Rattle.ssh_key.specs.base.Reading.{Gives, IsRefused, Reads}
+use Rattle.ssh_key.specs.base.Sink.{IsLength, MeasuresBoxed}
+use Rattle.ssh_key.specs.base.Source.{IsSound, Source}
+use Rattle.ssh_key.specs.base.Stops.{Stopped}
+use Rattle.ssh_key.specs.model.Parts.{Parts, box, number, ◌&◌, flat, BoxesFit}
+use Rattle.ssh_key.specs.model.Terms.{tested}
+use Rattle.ssh_key.specs.types.Error as wide
+use Rattle.ssh_key.specs.types.encoding.Error.{Error}
+use Rattle.agent.specs.Parts.{nothing_at}
+use Rattle.ssh_key.proofs.Lawful.{checked_read}
+use Rattle.ssh_key.proofs.Mapped.{mapped_reads, mapped_refused}
+use Rattle.ssh_key.proofs.Stopping.{mapped_stopped}
+use Rattle.ssh_key.proofs.Writing.{boxes_both, boxes_box, boxes_first, boxes_inside, boxes_length, boxes_number, boxes_second, length_both, length_number8}
+
+pub boxed_misfit : (p : Parts) → (BoxesFit p → ⊥) → BoxesFit (box p) → ⊥
+boxed_misfit p h b = h (boxes_inside p b)
+
+pub boxed_measured : (p : Parts) (n : ℕ) (r : Result ℕ Error) → BoxesFit p × (n ≡ length (flat p)) → IsLength n r → MeasuresBoxed p r
+boxed_measured p n (Ok m) h k = (boxes_box p (omega (arith, h.1, k.1)) h.0, omega (arith, h.1, k.0))
+boxed_measured p n (Err e) h k = (λ b. absurd (omega (arith, boxes_length p b, h.1, k.0)), k.1)
+
+-- a number of one byte before it
+pub number_measured : (k : ℕ) (p : Parts) (n : ℕ) (r : Result ℕ Error) → BoxesFit p × (n ≡ length (flat p)) → IsLength (1 + n) r → MeasuresBoxed (number w8 k & p) r
+number_measured k p n r h l = boxed_measured (number w8 k & p) (1 + n) r (boxes_both (number w8 k) p (boxes_number w8 k) h.0, omega (arith, h.1, length_both (number w8 k) p, length_number8 k)) l
+
+-- what follows it has a box that is too long, or is itself too long for one
+pub second_misfit : (p q : Parts) → (BoxesFit q → ⊥) → BoxesFit (box (p & q)) → ⊥
+second_misfit p q h b = h (boxes_second p q (boxes_inside (p & q) b))
+
+pub second_past : (p q : Parts) → (BoxesFit (box q) → ⊥) → BoxesFit (box (p & q)) → ⊥
+second_past p q h b = h (boxes_box q (omega (arith, boxes_length (p & q) b, length_both p q)) (boxes_second p q (boxes_inside (p & q) b)))
+
+-- ---- what follows the number
+
+-- nothing is read
+pub nothing_reads : {X A : Type 0} (means : X → A) (value : A) (x : X) (s : Source) → means x ≡ value → Reads means (nothing_at value) s x s
+nothing_reads means value x s is = record { value = rw is refl; missing = refl; outer = refl }
+
+-- a value is read, and what is wanted is made of it; or it is refused
+module _ {Y Z W : Type 0} (f : Format Y) (make : Y → Z) (means : W → Z) (s t : Source) where
+  abbrev whole : Format Z
+  whole = tested (λ y. Ok (make y)) f
+
+  pub held_reads : {X : Type 0} (parts : X → Y) (x : X) (w : W) → Reads parts f.read s x t → make (parts x) ≡ means w → Reads means whole.read s w t
+  held_reads parts x w h made = mapped_reads parts f.read s t x (λ y. Ok (make y)) whole.read means w h (checked_read (λ y. Ok (make y)) f.read) (ap Ok made)
+
+  pub held_refused : (e : wide.Error) (r : Result W wide.Error) → IsErrAnd r (λ d. d ≡ e) → IsRefused s.missing (cause e) (f.read s.left) → (cause e ≡ NoMemory → IsSound s → f.needs s.left s.missing) → Stopped (cause e) f.delimited_at f.needs f.overruns s → Gives means cause whole.read s r t × Asks cause whole.needs s r × Stops cause whole s r
+  held_refused e (Ok w) is gives asks past = absurd is
+  held_refused e (Err d) is gives asks past = rw is (
+    mapped_refused f.read s.missing (cause e) s.left (λ y. Ok (make y)) whole.read (checked_read (λ y. Ok (make y)) f.read) gives,
+    asks,
+    mapped_stopped f.delimited_at f.needs f.overruns (cause e) s (λ y. Ok (make y)) whole.delimited_at (checked_read (λ y. Ok (make y)) f.delimited_at) past,
+  )
+
+-- a number, a value and a list, which is in no box of its own
+pub first_misfit : (k p q : Parts) → (BoxesFit p → ⊥) → BoxesFit (box (k & p & q)) → ⊥
+first_misfit k p q h b = h (boxes_first p q (boxes_second k (p & q) (boxes_inside (k & p & q) b)))
+
+pub list_measured : (k : ℕ) (p q : Parts) (n m : ℕ) (r : Result ℕ Error) → BoxesFit p × (n ≡ length (flat p)) → BoxesFit (box q) × (m ≡ length (flat q)) → IsLength (1 + n + m) r → MeasuresBoxed (number w8 k & p & q) r
+list_measured k p q n m r a b l = boxed_measured (number w8 k & p & q) (1 + n + m) r (boxes_both (number w8 k) (p & q) (boxes_number w8 k) (boxes_both p q a.0 (boxes_inside q b.0)), omega (arith, a.1, b.1, length_both (number w8 k) (p & q), length_both p q, length_number8 k)) l

@@ -1,0 +1,9 @@
+pub mod Additions
+pub mod Constraints
+pub mod Frames
+pub mod Lawful
+pub mod Parts
+pub mod Records
+pub mod Requests
+pub mod Responses
+pub mod Signing

@@ -1,0 +1,6 @@
+pub mod Constraints
+pub mod Parts
+pub mod Records
+pub mod Requests
+pub mod Responses
+pub mod Signing

@@ -1,5 +1,0 @@
-use Rattle.agent_codec.proofs.Lawful.{request_body_lawful}
-use Rattle.agent_codec.proofs.request.RequestFramed.lawful_bodies.Goals as goal
-
-pub returns : goal.returns
-returns c = request_body_lawful

@@ -1,5 +1,0 @@
-pub mod Constraints
-pub mod Parts
-pub mod Records
-pub mod Requests
-pub mod Responses

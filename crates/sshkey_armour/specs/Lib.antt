@@ -1,3 +1,0 @@
-pub mod Armour
-pub mod Reading
-pub mod Examples

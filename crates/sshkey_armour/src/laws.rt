@@ -1,8 +1,0 @@
-//! What holds of every text.
-
-ghost use Rattle.sshkey_armour.specs.Reading.{OneArmour};
-
-/// No text is the armour of two strings of bytes.
-pub fn one_armour()
-    ensures { OneArmour }
-{}

@@ -1,0 +1,8 @@
+//! What holds of every text.
+
+ghost use Rattle.sshkey_base64.specs.ArmourReading.{OneArmour};
+
+/// No text is the armour of two strings of bytes.
+pub fn one_armour()
+    ensures { OneArmour }
+{}

@@ -1,0 +1,11 @@
+mod Asked
+mod Commands
+mod Digests
+mod Front
+mod Grants
+mod Laid
+mod Pends
+mod Places
+mod Texts
+mod Verdicts
+mod Told

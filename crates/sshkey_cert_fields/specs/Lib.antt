@@ -1,3 +1,0 @@
-pub mod ToBeSignedValues
-pub mod ToBeSignedParts
-pub mod Comparisons

@@ -1,2 +1,0 @@
-mod Colons
-mod Parts

@@ -1,3 +1,0 @@
-mod Judged
-mod Texts
-mod Verified

@@ -1,4 +1,0 @@
-use Rattle.sshkey_host_calls.proofs.request.HostRequest.with_texts.Goals as goal
-
-pub text_of-requires : goal.text_of-requires
-text_of-requires c = c.requires

@@ -1,7 +1,0 @@
-mod Asked
-mod Digests
-mod Grants
-mod Pends
-mod Places
-mod Texts
-mod Verdicts

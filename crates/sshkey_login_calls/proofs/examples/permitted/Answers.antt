@@ -1,5 +1,0 @@
-use Rattle.std.proofs.Common.{refl}
-use Rattle.sshkey_login_calls.proofs.examples.permitted.Goals as goal
-
-pub returns : goal.returns
-returns c = (refl, refl, refl, refl, refl)

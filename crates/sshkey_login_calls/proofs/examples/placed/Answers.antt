@@ -1,7 +1,0 @@
-use Rattle.std.proofs.Common.{refl}
-use Rattle.sshkey_model.specs.Parts.{flat}
-use Rattle.sshkey_login_calls.proofs.examples.placed.Goals as goal
-
-pub returns : goal.returns
-unfolding flat
-returns c = (refl, refl, refl, refl, refl, refl)

@@ -1,5 +1,0 @@
-use Rattle.std.proofs.Common.{refl}
-use Rattle.sshkey_padding.proofs.examples.padded_signatures.Goals as goal
-
-pub returns : goal.returns
-returns c = (refl, refl, refl, refl, refl, refl, refl, refl, refl, refl)

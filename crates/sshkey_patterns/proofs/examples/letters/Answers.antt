@@ -1,9 +1,0 @@
-use Rattle.std.proofs.Common.{refl}
-use Rattle.std.specs.Char.{to_ascii_lowercase}
-use Rattle.sshkey_patterns.specs.Examples.{cases, others}
-use Rattle.sshkey_patterns.specs.Patterns.{Matches}
-use Rattle.sshkey_patterns.proofs.Deciding.{matches, decides_match, each_row, no_row}
-use Rattle.sshkey_patterns.proofs.examples.letters.Goals as goal
-
-pub returns : goal.returns
-returns c = (each_row (matches to_ascii_lowercase) (Matches to_ascii_lowercase) (decides_match to_ascii_lowercase) cases refl, no_row (matches (λ c. c)) (Matches (λ c. c)) (decides_match (λ c. c)) cases refl, no_row (matches to_ascii_lowercase) (Matches to_ascii_lowercase) (decides_match to_ascii_lowercase) others refl)

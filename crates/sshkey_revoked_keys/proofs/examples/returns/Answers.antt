@@ -1,8 +1,0 @@
-use Rattle.std.proofs.Common.{refl}
-use Rattle.sshkey_entries.specs.Fronts.{without_front}
-use Rattle.sshkey_revoked_keys.specs.RevokedLines.{revoked_lines}
-use Rattle.sshkey_revoked_keys.proofs.examples.returns.Goals as goal
-
-pub returns : goal.returns
-unfolding revoked_lines without_front
-returns c = (refl, refl, refl)
