@@ -7,7 +7,7 @@ ghost use Rattle.sshkey_entries.specs.Answers.{AsksEntries, AsksEntry, ReadsEntr
 
 use crate::entry_lines::EntryTexts;
 use sshkey_base::Result;
-use sshkey_input::text_of_file;
+use sshkey_public::text_of_file;
 use std::alloc::Global;
 use std::fs::Files;
 
@@ -53,7 +53,7 @@ pub fn entries_of_text<E: FromLine>(alloc: Global, text: &str) -> Result<Vec<E>>
 
 /// All entries of the text that a file holds, in order.
 ///
-/// Fails with the errors of `sshkey_input::text_of_file`, and then with those of
+/// Fails with the errors of `sshkey_public::text_of_file`, and then with those of
 /// `entries_of_text`.
 pub fn entries_of_file<R: Files, E: FromLine>(rt: &R, alloc: Global, path: &str) -> Result<Vec<E>>
     ensures { ReadsFile E.means E.IsEntry result }

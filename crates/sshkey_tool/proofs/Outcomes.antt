@@ -8,12 +8,12 @@ use Rattle.sshkey_base.specs.Faults.{IsMachineFault}
 use Rattle.sshkey_base.specs.declared.encoding.Error.TheVariants as encoding
 use Rattle.sshkey_base.specs.declared.error.Error.{Error}
 use Rattle.sshkey_base.specs.declared.error.Error.TheVariants as wide
-use Rattle.sshkey_input.specs.Inputs.{IsNoText}
 use Rattle.sshkey_model.specs.Certificates.{Certificate, SignedFields, CertificateChoices, certificate, to_be_signed}
 use Rattle.sshkey_model.specs.Keys.{key, normal_key}
 use Rattle.sshkey_model.specs.Lines.{IsCertificateLine, IsKeyLine}
 use Rattle.sshkey_model.specs.Parts.{BoxesFit}
 use Rattle.sshkey_model.proofs.NormalKeysFit.{normal_boxes}
+use Rattle.sshkey_public.specs.Inputs.{IsNoText}
 use Rattle.sshkey_public.specs.PublicKeys.{public_of, comment_of}
 use Rattle.sshkey_public.specs.declared.public_key.PublicKey.{PublicKey}
 use Rattle.sshkey_tool.specs.Outcomes.{ShowsCertificate, ShowsKey, ShowsText, WritesOutcome, WritesRefusal, WritesEntries, entries_status}

@@ -10,7 +10,7 @@ use crate::output::write_line;
 use crate::refusal::refuse;
 use crate::shown::{shown_of_certificate_line, shown_of_key_line};
 use sshkey_base::Error;
-use sshkey_input::read_text;
+use sshkey_public::read_text;
 use std::alloc::Global;
 use std::io::{Read, Write};
 

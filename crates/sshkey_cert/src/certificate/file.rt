@@ -8,7 +8,7 @@ ghost use Rattle.sshkey_cert.specs.Lines.{IsOfSomeLine};
 
 use super::Certificate;
 use sshkey_base::Result;
-use sshkey_input::text_of_file;
+use sshkey_public::text_of_file;
 use std::alloc::Global;
 use std::fs::{self, Files};
 

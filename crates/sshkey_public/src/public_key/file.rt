@@ -5,8 +5,8 @@ ghost use Rattle.sshkey_model.specs.Keys.{normal_key};
 ghost use Rattle.sshkey_public.specs.PublicKeys.{public_of, IsOfSomeLine, WritesFile};
 
 use super::PublicKey;
+use crate::file::text_of_file;
 use sshkey_base::Result;
-use sshkey_input::text_of_file;
 use std::alloc::Global;
 use std::fs::{self, Files};
 

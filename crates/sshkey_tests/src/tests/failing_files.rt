@@ -3,7 +3,7 @@
 use super::failing::Failing;
 use super::support::is_wanted;
 use ssh_key::{AuthorizedKeys, Certificate, Error, KnownHosts, PublicKey, encoding};
-use sshkey_input::{read_all, read_text};
+use sshkey_public::{read_all, read_text};
 use std::alloc::Global;
 use std::fs::Files;
 use std::io::ErrorKind;

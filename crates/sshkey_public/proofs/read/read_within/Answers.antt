@@ -1,7 +1,7 @@
 use Rattle.std.proofs.Common.{ℕ, List, ◌++◌, sym, ap, ◌∙◌, append_assoc}
 use Rattle.std.specs.Prelude.{Option, Some, None}
 use Rattle.std.specs.Io.KnownBytes.{Consumes}
-use Rattle.sshkey_input.proofs.read.read_within.Goals as goal
+use Rattle.sshkey_public.proofs.read.read_within.Goals as goal
 
 -- what two reads pass, one after the other
 passed_then : (old middle new : Option (List ℕ)) (a b : List ℕ) → Consumes old middle a → Consumes middle new b → Consumes old new (a ++ b)

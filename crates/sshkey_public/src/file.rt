@@ -3,7 +3,7 @@
 ghost use Rattle.std.specs.Prelude.{◌≢◌, IfErr};
 ghost use Rattle.sshkey_base.specs.Faults.{IsMachineFault};
 ghost use Rattle.sshkey_base.specs.declared.error.Error.TheVariants.{Io};
-ghost use Rattle.sshkey_input.specs.Inputs.{ReadsFileText};
+ghost use Rattle.sshkey_public.specs.Inputs.{ReadsFileText};
 
 use crate::read::read_text;
 use sshkey_base::{Error, Result, encoding};

@@ -4,7 +4,7 @@ ghost use Rattle.std.specs.Prelude.{◌≡◌, ◌≢◌, IfOk, IfErr, IfSome, O
 ghost use Rattle.std.specs.Io.KnownBytes.{IsAtEnd};
 ghost use Rattle.sshkey_base.specs.Faults.{IsMachineFault};
 ghost use Rattle.sshkey_base.specs.declared.error.Error.TheVariants.{Io};
-ghost use Rattle.sshkey_input.specs.Inputs.{IsPassed, ReadsText};
+ghost use Rattle.sshkey_public.specs.Inputs.{IsPassed, ReadsText};
 
 #[cfg(test)]
 mod tests;

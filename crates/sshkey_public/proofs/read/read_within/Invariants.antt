@@ -1,5 +1,5 @@
 use Rattle.std.specs.Io.KnownBytes.{Consumes}
-use Rattle.sshkey_input.proofs.read.read_within.Given as goal
+use Rattle.sshkey_public.proofs.read.read_within.Given as goal
 
 -- what was read so far
 abbrev pub invariant-reads : goal.invariant-reads
