@@ -9,9 +9,9 @@ import (
 	"time"
 )
 
-// HeldHosts is texts of known_hosts that are read once, to be asked again and again. Where lines name
-// hosts by neither patterns nor hashes, a question takes the time of the lines for its host, and of a
-// look at a number for each other. What is zero has no lines.
+// HeldHosts is texts of known_hosts that are read once, to be asked again and again. A question then
+// reads the lines for its host, and those that have a pattern or a hash. The others cost it next to
+// nothing. What is zero has no lines.
 type HeldHosts struct {
 	text   input
 	places []C.raf_line_place

@@ -15,8 +15,8 @@ from ._verify import Verifier, decided, is_signature
 
 
 class HeldHosts:
-    """The texts of all the files that count, read once to be asked again and again: where lines name hosts by neither patterns nor hashes,
-    a question takes the time of the lines for its host, and of a look at a number for each other. Give it as `known_hosts` of HostLogin."""
+    """The texts of all the files that count, read once to be asked again and again. A question then reads the lines for its host, and those
+    that have a pattern or a hash. The others cost it next to nothing. Give it as `known_hosts` of HostLogin."""
 
     def __init__(self, known_hosts: Iterable[BytesLike]) -> None:
         text, count = b"\n".join(files_of(known_hosts)), ctypes.c_size_t()

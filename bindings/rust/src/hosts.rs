@@ -8,9 +8,8 @@ use crate::questions::{decide, Question};
 use crate::raw;
 use crate::status::Status;
 
-/// Texts of known_hosts that are read once, to be asked again and again. Where lines name hosts by
-/// neither patterns nor hashes, a question takes the time of the lines for its host, and of a look
-/// at a number for each other.
+/// Texts of known_hosts that are read once, to be asked again and again. A question then reads the
+/// lines for its host, and those that have a pattern or a hash. The others cost it next to nothing.
 #[derive(Clone, Debug)]
 pub struct HeldHosts {
     text: Vec<u8>,

@@ -5,7 +5,6 @@ use Rattle.std.specs.Bool.{Decides}
 use Rattle.std.specs.List.{list_all, list_any}
 use Rattle.std.proofs.lemmas.Bool.Decides.{Decides-by_and, Decides-eqb, Decides-not}
 use Rattle.std.proofs.lemmas.List.Elements.{All-nil}
-use Rattle.std.proofs.lemmas.Slice.Eq.{bytes_eq-Decides}
 use Rattle.openssh_limits.specs.Read.{AreReadPrincipals}
 use Rattle.sshkey_matching.specs.SourceAddresses.{IsNetworks}
 use Rattle.sshkey_krl.specs.Revocations.{is_certificate_revoked}
@@ -21,6 +20,7 @@ use Rattle.sshkey_model.specs.Validity.{IsValid}
 use Rattle.login_policy.specs.Examples.{IsLetIn, fields, of_fields, option}
 use Rattle.login_policy.specs.KnownOptions.{Addresses, Command, IsKnownOption, IsPlainExtension, Verification, source_address}
 use Rattle.login_policy.specs.Logins.{HasRightFields, IsAllowedFrom, Login}
+use Rattle.login_policy.proofs.KnownOptions.{differ, found}
 
 -- ---- texts and names
 
@@ -35,18 +35,6 @@ all_free names e = λ k d l. zero_free _ ((Decides-by_and (λ n. list_all (λ c.
 
 pub never : false ≡ true → ⊥
 never e = cc
-
-pub differ : (a b : List ℕ) → bytes_eq a b ≡ false → a ≢ b
-differ a b unequal = λ same. never (sym unequal ∙ (bytes_eq-Decides a b).1 same)
-
-either_true : (b : Bool) → (b || true) ≡ true
-either_true true = refl
-either_true false = refl
-
-found : (name : List ℕ) (names : List (List ℕ)) → Contains names name → list_any (bytes_eq name) names ≡ true
-found name [] (k, below, is) = absurd (omega (arith, below))
-found name (n ∷ names) (zero, below, is) = rw ((bytes_eq-Decides name n).1 (sym is)) refl
-found name (n ∷ names) (suc k, below, is) = rw (found name names (k, omega (arith, below), is)) (either_true (bytes_eq name n))
 
 pub not_among : (name : List ℕ) (names : List (List ℕ)) → list_any (bytes_eq name) names ≡ false → ¬ Contains names name
 not_among name names unfound among = never (sym unfound ∙ found name names among)

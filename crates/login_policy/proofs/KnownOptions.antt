@@ -34,7 +34,7 @@ pub filled : (value : List ℕ) (empty : Bool) → empty ≡ (length value == 0)
 filled [] empty judged some = λ none. cc
 filled (x ∷ value) empty judged some = λ none. cc
 
-differ : (a b : List ℕ) → bytes_eq a b ≡ false → a ≡ b → ⊥
+pub differ : (a b : List ℕ) → bytes_eq a b ≡ false → a ≡ b → ⊥
 differ a b unequal same = other (sym unequal ∙ (bytes_eq-Decides a b).1 same)
 
 no_command : force_command ≡ verify_required → ⊥
@@ -96,7 +96,7 @@ either_true true = refl
 either_true false = refl
 
 -- a name that stands in the list is found there
-found : (name : List ℕ) (names : List (List ℕ)) → Contains names name → list_any (bytes_eq name) names ≡ true
+pub found : (name : List ℕ) (names : List (List ℕ)) → Contains names name → list_any (bytes_eq name) names ≡ true
 found name [] (k, below, is) = absurd (omega (arith, below))
 found name (n ∷ names) (zero, below, is) = rw ((bytes_eq-Decides name n).1 (sym is)) refl
 found name (n ∷ names) (suc k, below, is) = rw (found name names (k, omega (arith, below), is)) (either_true (bytes_eq name n))

@@ -82,7 +82,8 @@ fn split_dash(text: &[u8]) -> Option<(&[u8], &[u8])>
 
 /// The text without its white space.
 fn digits_of(alloc: Global, text: &[u8]) -> Result<Vec<u8>>
-    ensures digits { IfOk result (λ digits. digits.items ≡ filter (λ c. not (is_white c)) text.now) }
+    ensures digits { IfOk result (λ digits.
+        digits.items ≡ filter (λ c. not (is_white c)) text.now) }
     ensures refused { IfErr result (λ e. e ≡ wide.Memory) }
 {
     let mut digits = Vec::from_slice(alloc, text)?;

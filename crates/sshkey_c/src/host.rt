@@ -1,9 +1,8 @@
 //! Whether a key or a certificate is a host's.
 //!
-//! Who asks about many hosts and keys keeps a text of known_hosts and the places of its lines
-//! (`raf_place_hosts`): a line that is for others costs no more than a look at a number. The places
-//! are believed, as the text is. Those of a text that is longer or shorter than the one given are
-//! refused.
+//! Who asks about many hosts and keys keeps a text of known_hosts, and beside it the places of its
+//! lines (`raf_place_hosts`). A line for other hosts is then passed over by its number, unread. The
+//! places are believed, as the text is; only those of a text of another length are refused.
 
 ghost use Rattle.std.specs.Prelude.{◌≡◌, ◌≢◌, ◌≤◌, ◌<◌, length, take, false, true};
 ghost use Rattle.std.specs.Str.Lines.{lines};

@@ -34,13 +34,15 @@ impl<'a> Sources<'a> {
     /// Reads them. Fails only when out of memory.
     pub fn read(alloc: Global, trusted: &TrustedParts<'a>) -> Result<Sources<'a>>
         ensures texts { IfOk result
-            (λ it. map text_of it.authorized_keys.items ≡ texts_in trusted.now.authorized_keys.now) }
+            (λ it. map text_of it.authorized_keys.items
+            ≡ texts_in trusted.now.authorized_keys.now) }
         ensures principals { IfOk result
             (λ it. map text_of it.principals.items ≡ texts_in trusted.now.principals.now) }
         ensures command { IfOk result
             (λ it. map text_of it.command_keys.items ≡ texts_in trusted.now.command_keys.now) }
         ensures authorities { IfOk result
-            (λ it. fingerprints_of it.authorities.items ≡ authorities_of trusted.now.authorities.now) }
+            (λ it. fingerprints_of it.authorities.items
+            ≡ authorities_of trusted.now.authorities.now) }
         ensures revoked { IfOk result
             (λ it. AreReadOf trusted.now.revoked.now (reads_of it.revoked)) }
     {

@@ -1,10 +1,8 @@
-//! What the calls of the library for C (`sshkey_c`) are made of that are about keys, signatures,
-//! certificates and revocation lists: what they answer, in mathematics, the structs that they
-//! answer with, and their steps.
+//! Parts of the library for C (`sshkey_c`), for its calls about keys, signatures, certificates and
+//! revocation lists.
 //!
-//! Cryptography stays the caller's, so a check is two calls: what has to be verified, and whether
-//! the certificate is valid, given what the verification said. Each call answers with a number, and
-//! the bytes that it answers with are in the caller's room.
+//! Here are the steps of these calls, the structs that they answer with, and in mathematics what
+//! they answer.
 #![tactic(auto)]
 
 pub mod certified_key;

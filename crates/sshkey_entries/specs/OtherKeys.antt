@@ -1,6 +1,6 @@
--- A key's fields whose key is of a kind that is none here: a later kind of OpenSSH's, as
--- `ssh-mldsa44-ed25519`, or a former one. Its name stands in front of its bytes too (RFC 4253,
--- section 6.6).
+-- The fields of a key of a kind that is not read here: a later kind of OpenSSH's, as
+-- `ssh-mldsa44-ed25519`, or a former one. The bytes of a key begin with the name of its kind too
+-- (RFC 4253, section 6.6).
 use Rattle.std.specs.Prelude.{◌≡◌, ◌⊎◌, ◌<◌, ◌≤◌, ℕ, List, ◌++◌, length, map, codes, EachIndex, slice_index, Option, None, Some, Bool, true, not, ◌&&◌, ◌==◌, nat_lt}
 use Rattle.std.specs.Char.{to_ascii_lowercase}
 use Rattle.std.specs.Str.{IsUtf8}
@@ -21,7 +21,8 @@ is_name_character c = nat_lt 0x20 c && nat_lt c 0x7f && not (c == comma) && not 
 abbrev pub HasNameCharacters : List ℕ → Type 0
 HasNameCharacters name = EachIndex name (λ i. is_name_character (slice_index name i) ≡ true)
 
--- a name with which OpenSSH before 9.9 also took a blob to begin, letters in either case
+-- the short name of a kind, in letters of either case: OpenSSH before 9.9 also read keys whose bytes
+-- begin with one
 abbrev pub IsShortName : List ℕ → Type 0
 IsShortName name =
     let small = map to_ascii_lowercase name in
@@ -44,7 +45,7 @@ pub record SpellsName (name word : List ℕ) : Type 0 where
   pub begins : blob ≡ flat (string name) ++ rest
   pub is : word ≡ encode_of standard blob
 
--- The text is a name of those, bytes in Base64 that begin with it, and a comment, as of a key.
+-- The text is such a name, Base64 of bytes that begin with it, and what follows.
 pub record AreFieldsUnder (IsName : List ℕ → Type 0) (text : List ℕ) : Type 0 where
   pub name : List ℕ
   pub word : List ℕ
@@ -58,16 +59,16 @@ AreOtherKeyFields = AreFieldsUnder IsOtherName
 
 -- ---- former kinds
 
--- XMSS and its certificates, which OpenSSH had up to 10.0 (sshkey.c). Where it was built without them
--- it passed over the name. No key of another kind was read under it.
+-- XMSS and its certificates, which OpenSSH had up to 10.0 (sshkey.c). Built without them, it passed
+-- over such a name. It read no key of another kind under one.
 abbrev pub IsFormerName : List ℕ → Type 0
 IsFormerName name = (name ≡ codes "ssh-xmss@openssh.com") ⊎ (name ≡ codes "ssh-xmss-cert-v01@openssh.com")
 
 abbrev pub AreFormerKeyFields : List ℕ → Type 0
 AreFormerKeyFields = AreFieldsUnder IsFormerName
 
--- The fields of a key whose kind is none here. Under a former name a key may be read as one of
--- private use.
+-- The fields of a key that is not read here. Under a former name some keys are read, as keys of a
+-- kind of private use.
 abbrev pub AreForeignKeyFields : List ℕ → Type 0
 AreForeignKeyFields text = AreOtherKeyFields text ⊎ (AreFormerKeyFields text × AreNoKeyFields text)
 

@@ -29,7 +29,7 @@ pub use key_fields::{read_key_bytes, read_key_fields};
 pub use non_blank_byte_lines::NonBlankByteLines;
 pub use non_blank_lines::NonBlankLines;
 pub use other_key::{
-    are_other_key_fields, bytes_are_former_key_fields, bytes_are_other_key_fields,
+    are_other_key_fields, bytes_are_former_key_fields, bytes_are_other_key_fields, is_short_name,
 };
 pub use reading::Reading;
 pub use sshkey_matching::{

@@ -32,7 +32,9 @@ fn is_fixed_name(name: &str) -> bool
     Algorithm::from_fixed_name(name).is_some()
 }
 
-fn is_short_name(name: &str) -> bool
+/// Whether it is the short name of a kind, in letters of either case: OpenSSH before 9.9 also read
+/// keys whose bytes begin with one.
+pub fn is_short_name(name: &str) -> bool
     ensures { IsTrue result ↔ IsShortName name.now }
 {
     name.eq_ignore_ascii_case("rsa")

@@ -1,10 +1,10 @@
-//! What the calls of the library for C (`sshkey_c`) are made of that are about texts and their
-//! lines: authorized_keys, known_hosts and whether a key or a certificate is a host's, allowed
-//! signers, revocation files, addresses and times, the picture of a key, and a host with its port
-//! as a user types them.
+//! Parts of the library for C (`sshkey_c`), for its calls about files of lines, about hosts, and
+//! about what a user types or sees.
 //!
-//! As in `sshkey_calls`: what they answer, in mathematics, the structs that they answer with, and
-//! their steps. HMAC-SHA1 is that of `sshkey_known_hosts`.
+//! As in `sshkey_calls`, here are steps, structs and what calls answer. The files are
+//! authorized_keys, known_hosts, allowed signers and revocation files. A user types addresses,
+//! times and a host with its port, and sees the picture of a key. HMAC-SHA1 is that of
+//! `sshkey_known_hosts`.
 #![tactic(auto)]
 
 pub mod addresses;

@@ -60,7 +60,8 @@ fn is_key_revoked(alloc: Global, files: &RevocationFiles<'_>, key: &[u8]) -> Res
 /// The number of what the files say of the certificate.
 pub fn certificate_status(alloc: Global, files: &RevocationFiles<'_>, certificate: &[u8]) -> u32
     ensures exactly { TellsRevoked (IsWhether SpellsCertificate
-        (λ c. values.is_certificate_revoked (one_revokes (reads_of files.now)) c) certificate.now) result }
+        (λ c. values.is_certificate_revoked (one_revokes (reads_of files.now)) c)
+        certificate.now) result }
     ensures fault { (met : Fault) → whole certificate_at certificate.now ≡ Err met
         → result ≡ fault_number met }
     ensures memory { result ≡ 1 → SpellsSome SpellsCertificate certificate.now }
@@ -84,7 +85,8 @@ fn is_certificate_revoked(
     ensures fault { (met : Fault) → whole certificate_at certificate.now ≡ Err met
         → IsErrAnd result (λ e. cause e ≡ Faulty met) }
     ensures unsaid { IfErr result (λ e. cause e ≢ NoMemory → (yes : Bool)
-        → IsWhether SpellsCertificate (λ c. values.is_certificate_revoked (one_revokes (reads_of files.now)) c)
+        → IsWhether SpellsCertificate
+        (λ c. values.is_certificate_revoked (one_revokes (reads_of files.now)) c)
         certificate.now yes → ⊥) }
     ensures memory { IfErr result (λ e. cause e ≡ NoMemory
         → SpellsSome SpellsCertificate certificate.now) }

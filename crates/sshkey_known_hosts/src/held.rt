@@ -1,4 +1,4 @@
-//! Lines of known_hosts that are held, so that many hosts are asked about and nothing is read again.
+//! Lines of known_hosts that are held: many hosts are asked about, and no line is read again.
 
 ghost use Rattle.std.specs.Prelude.{◌≡◌, ◌<◌, ℕ, List, IsTrue, IfOk, IfErr, length};
 ghost use Rattle.sshkey_base.specs.declared.error.Error.TheVariants as wide;
@@ -49,7 +49,8 @@ fn is_literal(pattern: &[u8]) -> bool
 
 /// The bits of the hashes of all the names that patterns may be for.
 fn names_of_patterns(text: &[u8]) -> u64
-    ensures { (name : List ℕ) → AreForName name (patterns text.now) → IsAmong result (name_hash name) }
+    ensures { (name : List ℕ) → AreForName name (patterns text.now) →
+        IsAmong result (name_hash name) }
 {
     let mut names = 0;
     let mut rest = text;

@@ -4,7 +4,6 @@ ghost use Rattle.std.specs.Prelude.{◌≡◌, ◌↔◌, ◌≤◌, IfErr, IfOk
 ghost use Rattle.sshkey_authorized_keys.specs.OpenSshEntries.{openssh_entry_of};
 ghost use Rattle.sshkey_entries.specs.Entries.{hash_sign};
 ghost use Rattle.sshkey_entries.specs.Fields.{without_blanks};
-ghost use Rattle.sshkey_entries.specs.OtherKeys.{IsShortName};
 ghost use Rattle.sshkey_keys.specs.Keys.{key_of};
 ghost use Rattle.sshkey_model.specs.Keys.{IsKey};
 ghost use Rattle.sshkey_model.specs.Names.{algorithm_name, algorithms, named};
@@ -26,7 +25,7 @@ use login_terms::{Reading, Terms};
 use sshkey_authorized_keys::{Entry, OpenSshEntry, split_options};
 use sshkey_base::Algorithm;
 use sshkey_entries::laws::one_authorized_line;
-use sshkey_entries::split_blank;
+use sshkey_entries::{is_short_name, split_blank};
 use sshkey_keys::KeyData;
 use std::alloc::{AllocError, Global};
 use std::str;
@@ -123,18 +122,6 @@ fn is_later_name(word: &str) -> bool
     ensures { IsTrue result ↔ IsLaterName word.now }
 {
     word == "webauthn-sk-ecdsa-sha2-nistp256@openssh.com" || word == "ssh-mldsa44-ed25519"
-}
-
-fn is_short_name(word: &str) -> bool
-    ensures { IsTrue result ↔ IsShortName word.now }
-{
-    word.eq_ignore_ascii_case("rsa")
-        || word.eq_ignore_ascii_case("dsa")
-        || word.eq_ignore_ascii_case("ecdsa")
-        || word.eq_ignore_ascii_case("ed25519")
-        || word.eq_ignore_ascii_case("ecdsa-sk")
-        || word.eq_ignore_ascii_case("ed25519-sk")
-        || word.eq_ignore_ascii_case("xmss")
 }
 
 /// What a line says that is no entry, nor a comment: sshd(8) may take it for one of the key where a

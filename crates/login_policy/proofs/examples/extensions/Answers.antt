@@ -1,7 +1,8 @@
 use Rattle.std.proofs.Common.{[], codes, refl, arith}
 use Rattle.login_policy.specs.Examples.{option}
 use Rattle.login_policy.specs.KnownOptions.{flags}
-use Rattle.login_policy.proofs.ExampleLemmas.{differ, not_among, zero_free}
+use Rattle.login_policy.proofs.ExampleLemmas.{not_among, zero_free}
+use Rattle.login_policy.proofs.KnownOptions.{differ}
 use Rattle.login_policy.proofs.examples.extensions.Goals as goal
 
 pub returns : goal.returns

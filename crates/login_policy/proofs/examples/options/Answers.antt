@@ -1,7 +1,8 @@
 use Rattle.std.proofs.Common.{[], codes, refl, arith}
 use Rattle.login_policy.specs.Examples.{option}
 use Rattle.login_policy.specs.KnownOptions.{Addresses, Command, Verification}
-use Rattle.login_policy.proofs.ExampleLemmas.{differ, zero_free}
+use Rattle.login_policy.proofs.ExampleLemmas.{zero_free}
+use Rattle.login_policy.proofs.KnownOptions.{differ}
 use Rattle.login_policy.proofs.examples.options.Goals as goal
 
 pub returns : goal.returns
