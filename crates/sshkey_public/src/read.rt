@@ -6,9 +6,6 @@ ghost use Rattle.sshkey_base.specs.Faults.{IsMachineFault};
 ghost use Rattle.sshkey_base.specs.declared.error.Error.TheVariants.{Io};
 ghost use Rattle.sshkey_public.specs.Inputs.{IsPassed, ReadsText};
 
-#[cfg(test)]
-mod tests;
-
 use sshkey_base::{Error, Result, encoding};
 use std::alloc::Global;
 use std::io::{ErrorKind, Read};
@@ -31,8 +28,8 @@ pub fn read_all<R: Read>(alloc: Global, input: &mut R) -> Result<Vec<u8>>
     read_within(alloc, input, MOST_READS)
 }
 
-/// The same, if the end is met in that many reads.
-fn read_within<R: Read>(alloc: Global, input: &mut R, most_reads: u64) -> Result<Vec<u8>>
+/// The same, if the end is met in that many reads; else it fails with `Io(Other)` after them.
+pub fn read_within<R: Read>(alloc: Global, input: &mut R, most_reads: u64) -> Result<Vec<u8>>
     ensures bytes { IfOk result (λ v. IfSome (R.remaining input.old) (λ bytes. v.items ≡ bytes)) }
     ensures end { OnOk result (IsAtEnd (R.remaining input.new)) }
     ensures passed { IsPassed (R.remaining input.old) (R.remaining input.new) }

@@ -25,6 +25,7 @@ mod paths;
 mod private_keys;
 mod program;
 mod readers;
+mod reads;
 mod ssh_signatures;
 mod support;
 mod times;
