@@ -4,7 +4,7 @@ use Rattle.std.specs.Prelude.{map}
 use Rattle.ssh_key.proofs.Grammars.{all_end, both_at}
 use Rattle.ssh_key.proofs.Lawful.{IsMapped}
 use Rattle.ssh_key.specs.model.Grammar.{IsGrammar, normal_is_spelling}
-use Rattle.ssh_key.specs.model.Parts.{box, each, flat, Fits, number, ◌&◌}
+use Rattle.ssh_key.specs.model.Parts.{box, each, flat, Fits, ◌&◌}
 use Rattle.ssh_key.specs.model.Texts.{string}
 use Rattle.agent.specs.Constraints.{constraint, constraint_of, constraints}
 use Rattle.agent.specs.Parts.{message}

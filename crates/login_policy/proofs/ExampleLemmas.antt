@@ -1,5 +1,5 @@
 -- What the worked examples cite: a login with all parts, and tests of texts and names.
-use Rattle.std.proofs.Common.{◌≡◌, ◌≢◌, ℕ, zero, suc, ◌<◌, ◌≤◌, ◌^◌, Bool, true, false, not, ◌==◌, List, [], ◌∷◌, codes, bytes_eq, refl, sym, ◌∙◌, ◌||◌, arith}
+use Rattle.std.proofs.Common.{◌≡◌, ◌≢◌, ℕ, ◌<◌, ◌≤◌, ◌^◌, true, false, not, ◌==◌, List, [], ◌∷◌, codes, bytes_eq, refl, sym, ◌∙◌, arith}
 use Rattle.std.specs.Prelude.{All, Contains}
 use Rattle.std.specs.Bool.{Decides}
 use Rattle.std.specs.List.{list_all, list_any}
@@ -10,7 +10,6 @@ use Rattle.sshkey_matching.specs.SourceAddresses.{IsNetworks}
 use Rattle.sshkey_krl.specs.Revocations.{is_certificate_revoked}
 use Rattle.sshkey_model.specs.CertificateExamples.{authority}
 use Rattle.sshkey_model.specs.Fingerprints.{fingerprint}
-use Rattle.sshkey_model.specs.KeyExamples.{ed25519_key}
 use Rattle.sshkey_model.specs.Lines.{IsWithout}
 use Rattle.sshkey_model.specs.Names.{Sha256}
 use Rattle.sshkey_model.specs.OptionMaps.{value_of}

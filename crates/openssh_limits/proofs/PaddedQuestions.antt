@@ -8,7 +8,7 @@ use Rattle.sshkey_model.specs.Points.{curve_eq}
 use Rattle.sshkey_model.specs.Signatures.{Signature}
 use Rattle.sshkey_model.specs.Verification.{Question, question_under}
 use Rattle.sshkey_keys.specs.Asked.{IsAsked}
-use Rattle.openssh_limits.specs.Padding.{padded, padded_blob}
+use Rattle.openssh_limits.specs.Padding.{padded_blob}
 use borrow.Rule.Slice.PartMut.{put_mid}
 
 -- only RSA with a hash asks about an RSA key

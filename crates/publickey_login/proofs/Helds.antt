@@ -16,7 +16,6 @@ use Rattle.sshkey_keys.specs.Fingerprints.{IsFingerprint}
 use Rattle.sshkey_model.proofs.Grammars.{one_front}
 use Rattle.sshkey_model.specs.Certificates.{Certificate, SpellsCertificate, normal_certificate}
 use Rattle.sshkey_model.specs.Fingerprints as model
-use Rattle.sshkey_model.specs.Keys.{Key}
 use Rattle.sshkey_model.specs.Names.{Sha256}
 use Rattle.sshkey_model.specs.Parts.{flat}
 use Rattle.user_keys.proofs.CertificateLogins.{merged_as, own}
@@ -25,7 +24,7 @@ use Rattle.user_keys.specs.CertificateLogins.{signer}
 use Rattle.user_keys.specs.declared.grant.UserGrant.{UserGrant}
 use Rattle.publickey_login.specs.Grants.{GrantsCertificate, policy_login}
 use Rattle.publickey_login.specs.Logins.{Login}
-use Rattle.publickey_login.specs.Results.{CertificateHolds, HoldsExactly, IsPolicyRefusal, KeyHolds}
+use Rattle.publickey_login.specs.Results.{CertificateHolds, HoldsExactly, IsPolicyRefusal}
 use Rattle.publickey_login.specs.Searches.{Found}
 use Rattle.publickey_login.specs.Sources.{IsCertificateSource, authorities_of, counted_in}
 use Rattle.publickey_login.specs.declared.grant.Source.{Source}
@@ -35,13 +34,6 @@ use Rattle.publickey_login.specs.declared.refusal.PublickeyRefusal.{PublickeyRef
 use Rattle.publickey_login.specs.declared.refusal.PublickeyRefusal.TheVariants as refusal
 
 -- ---- of what is held
-
-pub by_key : (l : Login) (result : Result Held PublickeyRefusal) → KeyHolds l result → HoldsExactly l result
-by_key l (Ok h) is =
-    let none = is.1 in
-    let form = is.2 in
-    rw (none, form) is.0
-by_key l (Err r) is = λ other. inr (inl (is other))
 
 pub by_certificate : (l : Login) (result : Result Held PublickeyRefusal) → CertificateHolds l result → HoldsExactly l result
 by_certificate l (Ok h) is =

@@ -22,7 +22,7 @@ use Rattle.user_keys.specs.declared.refusal.UserRefusal.{UserRefusal}
 use Rattle.user_keys.specs.declared.refusal.UserRefusal.TheVariants as why
 use Rattle.publickey_login.specs.Grants.{Grants, IsAnswered, IsPending, policy_login, required_of}
 use Rattle.publickey_login.specs.Logins.{Files, InCertificate, Login, Principals, Read, Text, Unreadable}
-use Rattle.publickey_login.specs.Refusals.{IsWhyUnnamed, IsWhyUnsigned}
+use Rattle.publickey_login.specs.Refusals.{IsWhyUnsigned}
 use Rattle.publickey_login.specs.Searches.{ArePassed, AuthorityLine, Found, GoesOn, IsOfFirst, KeyLine, Passes, PrincipalLine, Sought, in_principals, in_text}
 use Rattle.publickey_login.specs.Signatures.{Signed}
 use Rattle.publickey_login.specs.Sources.{AuthorityGoesOn, FilesGoOn, IsCertificateSource, authorities_of, user_of}

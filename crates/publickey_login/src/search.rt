@@ -1,8 +1,5 @@
 //! The first text that lets in, or refuses.
 
-ghost use Rattle.sshkey_cert.specs.CertificateValues.{certificate_of};
-ghost use Rattle.sshkey_keys.specs.Keys.{key_of};
-ghost use Rattle.sshkey_model.specs.Keys.{IsKey};
 ghost use Rattle.std.specs.Prelude.{◌≡◌, map};
 ghost use Rattle.publickey_login.specs.Results.{CanSeek, FindsText, SearchesIn, SearchesText, asked_of, decides_alone};
 ghost use Rattle.publickey_login.specs.Stops.{refusal_for, source_in};

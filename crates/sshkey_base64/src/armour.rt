@@ -1,6 +1,6 @@
 //! How an armour is read.
 
-ghost use Rattle.std.specs.Prelude.{◌≡◌, ◌↔◌, ◌++◌, ◌∷◌, ℕ, List, IfErr, IfOk, IsTrue, MatchOption, filter, not};
+ghost use Rattle.std.specs.Prelude.{◌≡◌, ℕ, List, IfErr, IfOk, MatchOption, filter, not};
 ghost use Rattle.sshkey_base.specs.declared.error.Error.TheVariants as wide;
 ghost use Rattle.sshkey_model.specs.Lines.{IsWithout};
 ghost use Rattle.sshkey_base64.specs.Armour.{Encloses, dash, is_white};

@@ -34,9 +34,6 @@ module _ (all h r : List ℕ) (is : all ≡ flat (string h) ++ r) where
   pub text_taken : (found rest : List ℕ) → IsText h → Fits (string h) → text_at all ≡ Ok (found, rest) → (h ≡ found) × (r ≡ rest)
   text_taken found rest text fits got = pair h r found rest (sym (text_front h r text fits) ∙ ap text_at (sym is) ∙ got)
 
-  pub text_there : (f : Fault) → IsText h → Fits (string h) → text_at all ≡ Err f → ⊥
-  text_there f text fits got = neither h r f (sym (text_front h r text fits) ∙ ap text_at (sym is) ∙ got)
-
   pub string_taken : (found rest : List ℕ) → Fits (string h) → string_at all ≡ Ok (found, rest) → (h ≡ found) × (r ≡ rest)
   string_taken found rest fits got = pair h r found rest (sym (string_front h r fits) ∙ ap string_at (sym is) ∙ got)
 

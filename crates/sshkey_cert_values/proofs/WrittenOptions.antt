@@ -56,9 +56,6 @@ module _ {Y Z : Type 0} (all : List (String Y × String Z)) where
     pub others : BoxesFit (entries_parts all) → BoxesFit (entries_parts rest)
     pub below : len < 2 ^ 32
 
-  pub len_none : HasLen all 0
-  len_none = record { total = omega arith; fit = λ b. b; others = λ b. b; below = omega arith }
-
   module _ (rest : List (String Y × String Z)) (e : String Y × String Z) (others : List (String Y × String Z)) (is : rest ≡ e ∷ others) (len : ℕ) (so_far : HasLen rest len) where
     first : Parts
     first = plain_option (option_of e)

@@ -1,9 +1,9 @@
 -- No key begins with the name of another kind; and how such a name is read in a word.
-use Rattle.std.proofs.Common.{◌≡◌, ◌≢◌, ◌%◌, ℕ, suc, List, [], ◌∷◌, ◌++◌, length, Bool, true, false, ◌&&◌, ◌==◌, Option, Some, None, is_none, eqb-true, inl, inr, refl, sym, ap, subst, ◌∙◌, append_assoc, append-nil, arith, tests}
+use Rattle.std.proofs.Common.{◌≡◌, ◌≢◌, ◌%◌, ℕ, suc, List, [], ◌∷◌, ◌++◌, length, Bool, true, false, ◌&&◌, ◌==◌, Option, Some, None, is_none, eqb-true, inl, inr, refl, sym, ap, subst, ◌∙◌, append_assoc, arith, tests}
 use Rattle.std.specs.Int.{w32, to_be_bytes}
 use Rattle.std.specs.Prelude.{nat_le, nat_lt}
 use Rattle.std.proofs.lemmas.Bool.{and_parts}
-use Rattle.sshkey_base.specs.Source.{Source, Advances, IsSound, announced_len}
+use Rattle.sshkey_base.specs.Source.{Source, Advances, IsSound}
 use Rattle.sshkey_base64.specs.Words64.{IsSourceOf}
 use Rattle.sshkey_base64.proofs.GoodBytes.{length_word}
 use Rattle.sshkey_model.specs.Keys.{Key, Head, Plain, Head256, Head512, headed, body, key_algorithm, SpellsKey}
@@ -26,9 +26,6 @@ use Rattle.sshkey_entries.proofs.OneOpenSshLine.{one_marked, same_front}
 
 -- ---- steps through a source
 
-pub begun : (s : Source) → Advances s [] s
-begun s = record { taken = refl; missing = refl; outer = refl; are = refl }
-
 pub then_on : (s t u : Source) (a b : List ℕ) → Advances s a t → Advances t b u → Advances s (a ++ b) u
 then_on s t u a b x y = record {
   taken = x.taken ∙ ap (λ (l : List ℕ). a ++ l) y.taken ∙ sym (append_assoc a b u.left);
@@ -36,16 +33,6 @@ then_on s t u a b x y = record {
   outer = y.outer ∙ x.outer;
   are = are_bytes-append a b x.are y.are;
 }
-
--- none is left
-pub to_the_end : (s t : Source) (a : List ℕ) → Advances s a t → announced_len t ≡ 0 → (s.missing ≡ 0) × (are_bytes s.left ≡ true)
-to_the_end s t a x none =
-    let all : s.left ≡ a = x.taken ∙ ap (λ (l : List ℕ). a ++ l) (empty t.left (omega (arith, none))) ∙ append-nil a in
-    (omega (arith, none, x.missing), ap are_bytes all ∙ x.are)
-  where
-    empty : (l : List ℕ) → length l ≡ 0 → l ≡ []
-    empty [] e = refl
-    empty (c ∷ l) e = absurd (omega (arith, e))
 
 -- ---- a string
 

@@ -1,20 +1,13 @@
 -- The lines of a text, cut off one by one.
-use Rattle.std.proofs.Common.{◌≡◌, ◌⊎◌, ℕ, suc, ◌<◌, ◌≤◌, ◌+◌, ◌-◌, List, [], ◌∷◌, ◌++◌, length, get_or, take, drop, slice_index, filter, map, Bool, true, false, not, cond, eqb, nat_lt, None, Option, Some, position, refl, sym, ap, lt-ltb, ne_eqb, zero, subst, ◌∙◌, arith, tests, inl, inr, append_assoc, append-nil, length-append, length-drop, take-append-drop}
-use Rattle.std.proofs.Math.ListN.{drop_of_length-le}
-use Rattle.std.proofs.Math.Seq.{drop-cons, drop-append-add, drop-append_seam, take-append_seam}
-use Rattle.std.proofs.lemmas.Bool.{cases_lt, le-ltb}
-use Rattle.std.proofs.lemmas.List.{get_or-take, length-take-le}
-use Rattle.std.proofs.lemmas.List.Elements.{All-cons, All-from_get_or, All-nil}
-use Rattle.std.proofs.lemmas.List.Quantifiers.{position-Some}
-use Rattle.std.proofs.lemmas.List.Splits.{slice_split_none, slice_split_at, length-slice_split}
-use Rattle.std.proofs.lemmas.List.Sums.{fails_before_first, position_or_len_is}
-use Rattle.std.specs.List.{All, slice_split, position_or_len}
-use Rattle.std.specs.Str.Lines.{lines, lines_of_parts, strip_carriage_return}
-use Rattle.memchr.specs.Find.{IsFirstByte, is_byte}
+use Rattle.std.proofs.Common.{◌≡◌, ℕ, suc, ◌<◌, ◌≤◌, ◌+◌, ◌-◌, List, [], ◌∷◌, ◌++◌, length, get_or, take, drop, filter, map, true, false, cond, refl, sym, ap, zero, subst, ◌∙◌, arith, inl, inr, append_assoc, append-nil, length-append, length-drop, take-append-drop}
+use Rattle.std.proofs.Math.Seq.{drop-append-add, drop-append_seam, take-append_seam}
+use Rattle.std.proofs.lemmas.List.{length-take-le}
+use Rattle.std.proofs.lemmas.List.Elements.{All-from_get_or}
+use Rattle.std.specs.List.{All}
+use Rattle.std.specs.Str.Lines.{lines, strip_carriage_return}
 use Rattle.sshkey_entries.specs.Fields.{without_blanks, is_filled, filled_lines}
 use Rattle.sshkey_entries.specs.OptionEnds.{is_blank}
 use Rattle.sshkey_entries.proofs.Fronts as fronts
-use Rattle.sshkey_entries.proofs.TextLines.{more_lines}
 use Rattle.sshkey_entries.specs.ByteLines.{CutsLine, IsLineEnd, is_line_end}
 use Rattle.sshkey_entries.proofs.ByteLines.{AreBlanks, front_blanks, last_line, line_before, passed, step}
 use Rattle.sshkey_entry_calls.specs.Lines.{FindsLine}

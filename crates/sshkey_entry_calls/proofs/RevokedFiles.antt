@@ -1,21 +1,17 @@
 -- What revocation files say, and where memory is asked for.
 use denote.Ref.{Bor}
-use Rattle.std.proofs.Common.{◌≡◌, ◌≢◌, ◌<◌, arith, ℕ, ◌+◌, List, [], ◌∷◌, ◌++◌, get_or, length, take, Bool, true, false, Result, Ok, Err, refl, sym, ◌∙◌}
+use Rattle.std.proofs.Common.{◌≡◌, ◌<◌, arith, ℕ, ◌+◌, List, [], ◌∷◌, ◌++◌, get_or, length, take, Bool, true, false, Result, refl}
 use Rattle.std.proofs.lemmas.List.{take_more}
 use Rattle.std.specs.List.{AllZip}
-use Rattle.std.specs.Prelude.{IfErr, if◌then◌else◌}
-use Rattle.sshkey_base.specs.Causes.{Faulty, NoMemory, cause}
+use Rattle.std.specs.Prelude.{if◌then◌else◌}
 use Rattle.sshkey_base.specs.declared.error.Error.{Error}
-use Rattle.sshkey_krl.specs.Krls.{krl_format}
-use Rattle.sshkey_krl.specs.Revocation.{CertificateIdentity, Krl, certificate_identity}
+use Rattle.sshkey_krl.specs.Revocation.{CertificateIdentity, certificate_identity}
 use Rattle.sshkey_krl.specs.Revocations.{is_certificate_revoked}
 use Rattle.sshkey_model.specs.Certificates.{Certificate}
 use Rattle.sshkey_model.specs.Keys.{normal_key}
 use Rattle.sshkey_model.specs.Parts.{flat}
-use Rattle.sshkey_model.specs.Reading.{Fault, whole}
-use Rattle.sshkey_revoked_keys.specs.RevokedKeys.{AsksText, ReadsKrl, ReadsRevokedKeys, begins_krl}
 use Rattle.sshkey_revoked_keys.specs.declared.revoked_keys.RevokedKeys.{RevokedKeys}
-use Rattle.sshkey_entry_calls.specs.RevocationFiles.{IsReadOf, NeedsFile, are_read, revoked_status}
+use Rattle.sshkey_entry_calls.specs.RevocationFiles.{are_read, revoked_status}
 
 -- ---- several files
 

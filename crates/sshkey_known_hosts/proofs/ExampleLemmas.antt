@@ -173,9 +173,6 @@ said name text (Some CertAuthority) h comment is fits = (
 
 -- ---- hosts in front of the first key
 
-abbrev stands : ℕ → Bool
-stands c = is_no_blank c && is_other_than 0 c
-
 -- no empty text, no blank and no zero byte, and neither marker nor comment
 abbrev pub fit_in : List ℕ → Bool
 fit_in [] = false

@@ -1,10 +1,10 @@
 -- The places of the lines of a text, and the lines among them that may be for a name.
 use denote.Ref.{Bor}
-use Rattle.std.proofs.Common.{◌≡◌, ◌∙◌, ◌<◌, ◌≤◌, ◌+◌, ◌-◌, ℕ, Bool, true, false, List, [], ◌∷◌, ◌++◌, length, take, drop, cond, refl, sym, ap, subst, arith, append_assoc, append-nil}
+use Rattle.std.proofs.Common.{◌≡◌, ◌∙◌, ◌+◌, ◌-◌, ℕ, Bool, true, false, List, [], ◌∷◌, ◌++◌, length, take, drop, refl, sym, ap, subst, arith, append_assoc}
 use Rattle.std.proofs.Math.Seq.{drop-append_seam}
 use Rattle.std.proofs.lemmas.List.{length-append, length-drop}
 use Rattle.std.specs.Str.Lines.{lines}
-use Rattle.sshkey_entries.proofs.ByteLines.{left_smaller, step}
+use Rattle.sshkey_entries.proofs.ByteLines.{step}
 use Rattle.sshkey_entries.specs.ByteLines.{CutsLine}
 use Rattle.sshkey_entries.specs.Fields.{filled_lines, is_filled, without_blanks}
 use Rattle.sshkey_known_hosts.specs.HeldLines.{lines_of}

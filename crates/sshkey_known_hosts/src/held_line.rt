@@ -1,6 +1,6 @@
 //! A line of known_hosts that is held.
 
-ghost use Rattle.std.specs.Prelude.{◌≡◌, ◌↔◌, IsTrue};
+ghost use Rattle.std.specs.Prelude.{◌↔◌, IsTrue};
 ghost use Rattle.sshkey_known_hosts.specs.HeldNames.{IsAmong, TellsNames};
 
 /// A line of a text of known_hosts, and for which names it may be.

@@ -1,8 +1,7 @@
 //! What stands in a list, as it is written.
 
-ghost use Rattle.std.specs.Prelude.{◌≡◌, ◌*◌, ◌+◌, ◌^◌, [], length};
-ghost use Rattle.std.specs.Int.{w8, w64};
-ghost use Rattle.sshkey_base.specs.Sink.{Encodes, Measures};
+ghost use Rattle.std.specs.Prelude.{◌*◌, ◌+◌, ◌^◌, []};
+ghost use Rattle.std.specs.Int.{w64};
 ghost use Rattle.sshkey_keys.specs.Keys.{key_of};
 ghost use Rattle.sshkey_model.specs.Keys.{normal_key};
 ghost use Rattle.sshkey_model.specs.Parts.{◌&◌, box, each, number};

@@ -1,8 +1,7 @@
 //! What is asked about a host that a user named.
 
 ghost use Rattle.std.specs.Prelude.{◌≡◌, ◌↔◌, IsTrue, MatchResult};
-ghost use Rattle.std.specs.Net.Grammar.{IsIpText};
-ghost use Rattle.sshkey_matching.specs.AskedHosts.{HasOneText, IsAsked, IsAskedFor, IsHostFault, asked_name};
+ghost use Rattle.sshkey_matching.specs.AskedHosts.{HasOneText, IsAsked, IsHostFault, asked_name};
 
 use crate::from::is_ipv4_compatible;
 use crate::likeness::is_like_address;

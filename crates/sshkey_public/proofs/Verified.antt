@@ -1,6 +1,5 @@
 -- What is verified, from what the verifier says of the bytes that were signed.
 use Rattle.std.proofs.Common.{◌≡◌, ◌≢◌, inl, inr, ◌⊎◌, ℕ, List, Bool, true, false, Option, None, Some, Result, Ok, Err, refl, sym, subst, if◌then◌else◌}
-use Rattle.std.specs.Prelude.{OnOk}
 use Rattle.sshkey_model.specs.Keys.{Key}
 use Rattle.sshkey_model.specs.Parts.{Parts, flat, BoxesFit}
 use Rattle.sshkey_model.specs.SignedMessages.{IsVerified, signed_by}
@@ -11,11 +10,10 @@ use Rattle.sshkey_base.specs.declared.error.Error.{Error}
 use Rattle.sshkey_base.specs.declared.error.Error.TheVariants.{Encoding, Memory}
 use Rattle.sshkey_keys.specs.Keys.{key_of}
 use Rattle.sshkey_keys.specs.Signatures.{signature_of}
-use Rattle.sshkey_keys.specs.Verdicts.{SignatureRefusal, NotAccepted, judged, verdict, unsupported_of, Says, Verifies}
+use Rattle.sshkey_keys.specs.Verdicts.{SignatureRefusal, NotAccepted, judged, verdict, Says, Verifies}
 use Rattle.sshkey_model.specs.Signatures.{Signature}
 use Rattle.sshkey_base.specs.Acceptance.{AcceptsExactly}
 use Rattle.sshkey_public.specs.Judging.{JudgesSigned}
-use Rattle.sshkey_sshsig.specs.Signing.{signed_parts}
 use Rattle.sshkey_sshsig.specs.SshSignatures.{ssh_signature_of, signer_of, given_of}
 use Rattle.sshkey_sshsig.specs.declared.sshsig.SshSig.{SshSig}
 
@@ -38,15 +36,6 @@ not_made accepts f parts e h = elim h [
 pub asked_about : (accepts : Question → Bool) (f : SshSig) (parts : Parts) (bytes : List ℕ) (r : Result Unit Error) → BoxesFit parts → bytes ≡ flat parts → Verifies (verdict accepts (signer_of f) bytes (given_of f)) r → JudgesSigned accepts f parts r
 asked_about accepts f parts bytes (Ok x) fits is h = (fits, subst (λ (b : List ℕ). verdict accepts (signer_of f) b (given_of f) ≡ Ok tt) is h)
 asked_about accepts f parts bytes (Err e) fits is h = inr (fits, subst (λ (b : List ℕ). Says (verdict accepts (signer_of f) b (given_of f)) e) is h)
-
--- by the key, in the namespace, and the verifier said yes
-pub verified : (accepts : Question → Bool) (k : Key) (namespace message : List ℕ) (f : SshSig) (r : Result Unit Error) → k ≡ key_of (signer_of f) → namespace ≡ (ssh_signature_of f).namespace → JudgesSigned accepts f (signed_parts f message) r → OnOk r (IsVerified accepts k namespace message (ssh_signature_of f))
-verified accepts k namespace message f (Ok x) same_key same_namespace h = record {
-  same_key = sym same_key;
-  same_namespace = sym same_namespace;
-  accepted = subst (λ (j : Key). IsAccepted accepts j (signed_by (ssh_signature_of f) message) (signature_of (given_of f))) (sym same_key) (is_asked accepts (unsupported_of (signer_of f) (given_of f)) _ h.1);
-}
-verified accepts k namespace message f (Err e) same_key same_namespace h = tt
 
 -- ---- both ways
 

@@ -9,8 +9,7 @@ use Rattle.std.proofs.lemmas.Slice.Eq.{bytes_eq-Decides, starts_is}
 use Rattle.std.specs.Char.{to_ascii_lowercase}
 use Rattle.base64.specs.Engines.{standard}
 use Rattle.base64.specs.GeneralPurpose.{IsBytes, encode_of}
-use Rattle.sshkey_base.specs.Source.{Advances, Source, TooFew, announced_len}
-use Rattle.sshkey_base.specs.declared.encoding.Error.{Error}
+use Rattle.sshkey_base.specs.Source.{Advances, Source, announced_len}
 use Rattle.sshkey_base64.specs.Words64.{IsSourceOf}
 use Rattle.sshkey_base64.proofs.GoodBytes.{length_word}
 use Rattle.sshkey_model.proofs.Base64Words.{one_blob, some_word}
@@ -87,8 +86,6 @@ pub odd_word : (word : List ℕ) → (length word % 4 ≢ 0) → (blob : List �
 odd_word word other blob s = other (omega (arith, ap length s.2, length_word blob))
 
 module _ (word : List ℕ) (s : Source) (is : IsSourceOf word s) where
-  pub announces : (blob : List ℕ) → SpellsSize word blob → (announced_len s ≡ 1371) × (s.left ≡ blob)
-  announces blob b = let every = is.every blob b.0 b.2 in (omega (arith, every.0, ap length every.1, b.1), every.1)
 
   empty : (l : List ℕ) → length l ≡ 0 → l ≡ []
   empty [] e = refl
@@ -102,9 +99,6 @@ module _ (word : List ℕ) (s : Source) (is : IsSourceOf word s) where
 
   pub same_size : (a b : List ℕ) → SpellsSize word a → SpellsSize word b → a ≡ b
   same_size a b x y = one_blob a b x.0 y.0 (sym x.2 ∙ y.2)
-
-  pub too_few : (size : ℕ) (e : Error) → TooFew s size e → size ≡ 1371 → (blob : List ℕ) → SpellsSize word blob → ⊥
-  too_few size e few is_size blob b = let at = announces blob b in omega (arith, few.few, is_size, ap length at.1, b.1)
 
 -- ---- what it begins with
 

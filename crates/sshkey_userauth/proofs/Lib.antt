@@ -4,4 +4,3 @@ pub mod Lawful
 pub mod Accepted
 pub mod Measured
 pub mod Judging
-pub mod Once

@@ -3,7 +3,7 @@
 ghost use Rattle.std.specs.Prelude.{◌≡◌, IfOk, IfErr, Err};
 ghost use Rattle.sshkey_keys.specs.Questions.{asks};
 ghost use Rattle.sshkey_keys.specs.Signatures.{signature_of};
-ghost use Rattle.sshkey_userauth.specs.Judgements.{IsAsked, IsRefused, connection, judged};
+ghost use Rattle.sshkey_userauth.specs.Judgements.{IsAsked, IsRefused, judged};
 ghost use Rattle.sshkey_userauth.specs.RequestFormats.{SpellsUserauthRequest};
 ghost use Rattle.sshkey_userauth.specs.Values.{request_of};
 ghost use Rattle.sshkey_userauth.specs.declared.refusal.UserauthRefusal.TheVariants as refusals;

@@ -1,9 +1,8 @@
 -- What a line says of a login is one thing.
 use denote.Ref.{Bor}
-use Rattle.std.proofs.Common.{◌≡◌, ◌∙◌, ℕ, List, Bool, true, false, Option, Some, None, ap, inl, inr, refl, subst, sym}
+use Rattle.std.proofs.Common.{◌≡◌, ◌∙◌, ℕ, List, Bool, true, false, Option, ap, inl, inr, refl, subst, sym}
 use Rattle.std.specs.declared.net.ip_addr.IpAddr.{IpAddr}
 use Rattle.login_terms.specs.Terms.{Terms, terms_of}
-use Rattle.sshkey_model.specs.Certificates.{Certificate}
 use Rattle.login_terms.specs.declared.terms.Terms as code
 use Rattle.user_keys.specs.Answers.{FollowsFrom, SaysOf}
 use Rattle.user_keys.specs.Judgements.{CountsAt, Judges, LetsFrom, NamesInVain, joined}

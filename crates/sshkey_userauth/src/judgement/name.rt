@@ -1,6 +1,6 @@
 //! Names of algorithms in requests.
 
-ghost use Rattle.std.specs.Prelude.{◌≡◌, List, ℕ, option_map};
+ghost use Rattle.std.specs.Prelude.{◌≡◌, option_map};
 ghost use Rattle.sshkey_base.specs.Names.{algorithm_of};
 ghost use Rattle.sshkey_keys.specs.Keys.{key_of};
 ghost use Rattle.sshkey_userauth.specs.Judgements.{form_of, form_under, form_under_rsa, request_names};

@@ -1,5 +1,4 @@
 use Rattle.std.proofs.Common.{[], codes, arith, refl}
-use Rattle.std.specs.Fmt.{digits}
 use Rattle.sshkey_entries.specs.HostNames.{known_name}
 use Rattle.sshkey_model.specs.KeyExamples.{ed25519_key}
 use Rattle.sshkey_known_hosts.specs.Hmac.{hmac_sha1}

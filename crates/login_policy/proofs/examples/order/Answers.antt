@@ -1,4 +1,4 @@
-use Rattle.std.proofs.Common.{◌≡◌, [], ◌∷◌, true, codes, inr, refl, arith, lit<}
+use Rattle.std.proofs.Common.{◌≡◌, [], true, codes, inr, refl, arith, lit<}
 use Rattle.std.proofs.lemmas.List.Elements.{All-cons, All-nil}
 use Rattle.std.specs.Net.Addr.{ipv4_bits, ipv6_bits}
 use Rattle.std.specs.Net.Reader.{read_ipv4, read_ipv6, read_number, read_octet, read_segment, read_segments}
@@ -11,7 +11,6 @@ use Rattle.sshkey_model.specs.Names.{Sha256}
 use Rattle.sshkey_model.specs.Refusals.{has_trusted_authority}
 use Rattle.login_policy.specs.Examples.{fields, listed, login, of_fields, option}
 use Rattle.login_policy.specs.KnownOptions.{Addresses, IsKnownOption, source_address}
-use Rattle.login_policy.specs.PendingExamples.{forged}
 use Rattle.login_policy.specs.Refusals.{FromElsewhere, NotSigned, NotValid}
 use Rattle.login_policy.proofs.ExampleLemmas.{right, two_names}
 use Rattle.login_policy.proofs.examples.order.Goals as goal

@@ -1,4 +1,4 @@
-use Rattle.std.proofs.Common.{[], false, sym, refl, arith, lit<}
+use Rattle.std.proofs.Common.{[], sym, refl, arith, lit<}
 use Rattle.std.proofs.lemmas.List.Elements.{All-nil}
 use Rattle.login_policy.specs.Examples.{fields, login}
 use Rattle.login_policy.specs.KnownOptions.{IsKnownOption}

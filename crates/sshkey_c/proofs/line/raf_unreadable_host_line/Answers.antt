@@ -1,4 +1,4 @@
-use Rattle.std.proofs.Common.{◌≡◌, List, ℕ, inl, inr, subst, sym, ◌∙◌}
+use Rattle.std.proofs.Common.{List, ℕ, inl, inr, subst, sym, ◌∙◌}
 use Rattle.sshkey_matching.specs.AskedHosts.{IsAsked, IsHostFault}
 use Rattle.sshkey_entry_calls.specs.UnreadableLines.{TellsUnreadableLine}
 use Rattle.sshkey_entry_calls.proofs.AskedLines.{needs_memory}

@@ -1,4 +1,4 @@
-use Rattle.std.proofs.Common.{◌≡◌, ℕ, Option, subst}
+use Rattle.std.proofs.Common.{ℕ, Option, subst}
 use Rattle.sshkey_entry_calls.specs.UnreadableLines.{IsUnreadableLine}
 use Rattle.sshkey_entry_calls.proofs.unreadable_line.find_line.Goals as goal
 

@@ -1,4 +1,4 @@
-use Rattle.std.proofs.Common.{rules, ◌<◌, ◌∙◌, arith, ap, eqb-true, length, refl, sym}
+use Rattle.std.proofs.Common.{rules, ◌<◌, ◌∙◌, arith, ap, eqb-true, length, sym}
 use Rattle.std.specs.Str.Lines.{lines}
 use Rattle.sshkey_entries.proofs.ByteLines.{left_smaller, no_lines_left}
 use Rattle.sshkey_known_hosts.proofs.places.count_lines.Goals as goal

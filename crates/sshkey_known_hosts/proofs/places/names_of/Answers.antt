@@ -1,4 +1,4 @@
-use Rattle.std.proofs.Common.{◌∙◌, [], false, refl, subst, sym, true}
+use Rattle.std.proofs.Common.{◌∙◌, [], subst, sym, true}
 use Rattle.sshkey_entries.proofs.ByteLines.{step}
 use Rattle.sshkey_known_hosts.specs.HeldNames.{SayNothing}
 use Rattle.sshkey_known_hosts.proofs.HeldNames.{others_say_nothing}

@@ -1,4 +1,4 @@
-use Rattle.std.proofs.Common.{rules, ◌≡◌, ◌∙◌, ◌<◌, ◌-◌, ◌++◌, ◌∷◌, [], List, ap, append-nil, append_assoc, arith, eqb-true, length, subst, refl, sym, take}
+use Rattle.std.proofs.Common.{◌≡◌, ◌∙◌, ◌<◌, ◌-◌, ◌++◌, ◌∷◌, [], List, ap, append-nil, append_assoc, arith, eqb-true, length, subst, refl, sym, take}
 use Rattle.std.proofs.lemmas.List.{length-set, take_all, take_more_set}
 use Rattle.std.specs.Str.Lines.{lines}
 use Rattle.sshkey_entries.proofs.ByteLines.{no_lines_left}

@@ -1,4 +1,4 @@
-use Rattle.std.proofs.Common.{ℕ, List, inl, inr, subst, sym}
+use Rattle.std.proofs.Common.{ℕ, List, inr, subst, sym}
 use Rattle.std.proofs.lemmas.Result.{err_from_is_err_and}
 use Rattle.login_terms.specs.Terms.{terms_of}
 use Rattle.sshkey_cert.specs.CertificateValues.{certificate_of}

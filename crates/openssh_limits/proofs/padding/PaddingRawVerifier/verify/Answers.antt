@@ -1,4 +1,4 @@
-use Rattle.std.proofs.Common.{◌≡◌, ◌++◌, ◌∙◌, List, ap, replicate, subst, sym, ℕ}
+use Rattle.std.proofs.Common.{◌++◌, ◌∙◌, List, ap, replicate, subst, sym, ℕ}
 use Rattle.sshkey_base.specs.Names.{algorithm_of}
 use Rattle.sshkey_keys.specs.Asked.{IsAsked}
 use Rattle.sshkey_keys.specs.Keys.{key_of}
