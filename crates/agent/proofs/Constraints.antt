@@ -10,13 +10,13 @@ use Rattle.ssh_key.specs.model.Leaves.{SpellsString}
 use Rattle.ssh_key.specs.model.Grammar.{normal_is_spelling}
 use Rattle.ssh_key.specs.model.Parts.{number, ◌&◌, each, flat, Fits}
 use Rattle.ssh_key.specs.model.Texts.{string, text_format}
-use Rattle.agent.specs.Constraints.{Confirm, Constraint, Extension, IsWellFormedConstraint, Lifetime, body_format, constraint, constraint_format, constraint_of, constraints, kind_format, kind_from}
+use Rattle.agent.specs.Records.{Confirm, Constraint, Extension, IsWellFormedConstraint, Lifetime, body_format, constraint, constraint_format, constraint_of, constraints, kind_format, kind_from}
 use Rattle.agent.specs.declared.constraint.Constraint as code
 use Rattle.agent.specs.declared.constraint.Constraint.TheVariants as variants
 use Rattle.agent.specs.declared.constraint.kind.ConstraintKind.{ConstraintKind}
 use Rattle.agent.specs.declared.constraint.kind.ConstraintKind.TheVariants as kinds
 use Rattle.agent.proofs.Lawful.{constraint_lawful}
-use Rattle.agent.proofs.Parts.{after_number, both_spelled, number_alone}
+use Rattle.agent.proofs.Frames.{after_number, both_spelled, number_alone}
 
 pub constraint_chosen : IsChosen constraint_format.read kind_format.read (λ k. (body_format k).read)
 constraint_chosen = called_chosen kind_format.read (λ k. (body_format k).read)

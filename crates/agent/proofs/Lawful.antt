@@ -8,10 +8,8 @@ use Rattle.ssh_key.specs.model.Leaves.{string_format}
 use Rattle.ssh_key.specs.model.Parts.{bytes}
 use Rattle.ssh_key.specs.model.Reading.{Fault}
 use Rattle.ssh_key.specs.model.ToEnd.{HasBytes}
-use Rattle.agent.specs.Constraints.{body_format, constraint_format, constraints}
-use Rattle.agent.specs.Constraints as constraint
-use Rattle.agent.specs.Parts.{message, nothing_at, nothing_format}
-use Rattle.agent.specs.Records.{addition_format, addition_of_parts, identity_format, identity_of_parts, sign_request_format, sign_request_of_parts}
+use Rattle.agent.specs.Records.{body_format, constraint_format, constraints, message, nothing_at, nothing_format, addition_format, addition_of_parts, identity_format, identity_of_parts, sign_request_format, sign_request_of_parts}
+use Rattle.agent.specs.Records as constraint
 use Rattle.agent.specs.Requests as request
 use Rattle.agent.specs.Requests.{request_format}
 use Rattle.agent.specs.Responses as response
@@ -22,7 +20,7 @@ use Rattle.agent.specs.declared.request.kind.RequestKind.{RequestKind}
 use Rattle.agent.specs.declared.request.kind.RequestKind.TheVariants as request_kinds
 use Rattle.agent.specs.declared.response.kind.ResponseKind.{ResponseKind}
 use Rattle.agent.specs.declared.response.kind.ResponseKind.TheVariants as response_kinds
-use Rattle.agent.proofs.Parts.{nothing_grammar, number_shows}
+use Rattle.agent.proofs.Frames.{nothing_grammar, number_shows}
 
 nothing_lawful : {A : Type 0} (value : A) → IsFormat (nothing_format value)
 nothing_lawful value = record { grammar = by_itself (nothing_grammar value); lengths = no_lengths (nothing_at value) }

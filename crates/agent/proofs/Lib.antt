@@ -1,9 +1,7 @@
-pub mod Additions
+pub mod Records
 pub mod Constraints
 pub mod Frames
 pub mod Lawful
-pub mod Parts
-pub mod Records
 pub mod Requests
 pub mod Responses
 pub mod Signing

@@ -6,9 +6,7 @@ use Rattle.ssh_key.proofs.Lawful.{IsMapped}
 use Rattle.ssh_key.specs.model.Grammar.{IsGrammar, normal_is_spelling}
 use Rattle.ssh_key.specs.model.Parts.{box, each, flat, Fits, ◌&◌}
 use Rattle.ssh_key.specs.model.Texts.{string}
-use Rattle.agent.specs.Constraints.{constraint, constraint_of, constraints}
-use Rattle.agent.specs.Parts.{message}
-use Rattle.agent.specs.Records.{addition, addition_format, addition_of, sign_request, sign_request_of}
+use Rattle.agent.specs.Records.{constraint, constraint_of, constraints, message, addition, addition_format, addition_of, sign_request, sign_request_of}
 use Rattle.agent.specs.Requests.{Add, AddConstrained, Identities, IsWellFormed, Lock, Remove, RemoveAll, Request, Sign, Unlock, body, constrained_body, kind_from, request, request_format, request_of, string_body}
 use Rattle.agent.specs.declared.request.Request as code
 use Rattle.agent.specs.declared.request.Request.TheVariants as variants
@@ -16,7 +14,7 @@ use Rattle.agent.specs.declared.request.kind.RequestKind.{RequestKind}
 use Rattle.agent.specs.declared.request.kind.RequestKind.TheVariants as kinds
 use Rattle.agent.proofs.Constraints.{constraints_normal}
 use Rattle.agent.proofs.Lawful.{addition_lawful, request_lawful}
-use Rattle.agent.proofs.Parts.{after_number, both_spelled, frame_spelled, number_alone}
+use Rattle.agent.proofs.Frames.{after_number, both_spelled, frame_spelled, number_alone}
 use Rattle.agent.proofs.Records.{addition_normal, sign_request_normal}
 
 pub request_grammar : IsGrammar request_format.Spells request_format.read

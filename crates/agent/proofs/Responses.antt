@@ -12,8 +12,7 @@ use Rattle.ssh_key.specs.model.Parts.{box, bytes, each, flat, Fits, ◌&◌}
 use Rattle.ssh_key.specs.model.Signatures.{signature, SpellsSignature}
 use Rattle.ssh_key.specs.model.Texts.{string}
 use Rattle.ssh_key.specs.model.Counted.{counted_format}
-use Rattle.agent.specs.Parts.{message}
-use Rattle.agent.specs.Records.{identity, identity_format, identity_of}
+use Rattle.agent.specs.Records.{message, identity, identity_format, identity_of}
 use Rattle.agent.specs.Responses.{Extension, ExtensionFailure, Failure, Identities, IsWellFormed, Response, Signed, Success, answer, body, extension_body, kind_from, response, response_format, response_of, signed, strings}
 use Rattle.agent.specs.declared.identity.Identity as code_identity
 use Rattle.agent.specs.declared.response.Response as code
@@ -21,7 +20,7 @@ use Rattle.agent.specs.declared.response.Response.TheVariants as variants
 use Rattle.agent.specs.declared.response.kind.ResponseKind.{ResponseKind}
 use Rattle.agent.specs.declared.response.kind.ResponseKind.TheVariants as kinds
 use Rattle.agent.proofs.Lawful.{identity_lawful, response_lawful}
-use Rattle.agent.proofs.Parts.{after_number, both_spelled, frame_spelled, number_alone}
+use Rattle.agent.proofs.Frames.{after_number, both_spelled, frame_spelled, number_alone}
 use Rattle.agent.proofs.Records.{identity_normal}
 
 pub response_grammar : IsGrammar response_format.Spells response_format.read

@@ -1,5 +1,3 @@
-pub mod Constraints
-pub mod Parts
 pub mod Records
 pub mod Requests
 pub mod Responses

@@ -9,9 +9,7 @@ use Rattle.ssh_key.specs.model.Parts.{Parts, each, number, ◌&◌}
 use Rattle.ssh_key.specs.model.Reading.{Fault, FormatEncoding}
 use Rattle.ssh_key.specs.model.Texts.{string}
 use Rattle.ssh_key.specs.model.Terms.{◌then◌, tested}
-use Rattle.agent.specs.Constraints.{Constraint, IsWellFormedConstraint, constraint, constraint_of, constraints}
-use Rattle.agent.specs.Parts.{framed, nothing_format}
-use Rattle.agent.specs.Records.{Addition, IsWellFormedAddition, SignRequest, addition, addition_format, addition_of, sign_request, sign_request_format, sign_request_of}
+use Rattle.agent.specs.Records.{Constraint, IsWellFormedConstraint, constraint, constraint_of, constraints, framed, nothing_format, Addition, IsWellFormedAddition, SignRequest, addition, addition_format, addition_of, sign_request, sign_request_format, sign_request_of}
 use Rattle.agent.specs.declared.addition.Addition as code_addition
 use Rattle.agent.specs.declared.constraint.Constraint as code_constraint
 use Rattle.agent.specs.declared.request.Request as code

@@ -13,8 +13,7 @@ use Rattle.ssh_key.specs.model.Counted.{counted, counted_format}
 use Rattle.ssh_key.specs.model.Terms.{◌then◌, boxed, tested}
 use Rattle.ssh_key.specs.model.ToEnd.{values_to_end}
 use Rattle.ssh_key.specs.types.Signature as code_signature
-use Rattle.agent.specs.Parts.{framed, nothing_format}
-use Rattle.agent.specs.Records.{Identity, identity, identity_format, identity_of}
+use Rattle.agent.specs.Records.{framed, nothing_format, Identity, identity, identity_format, identity_of}
 use Rattle.agent.specs.declared.identity.Identity as code_identity
 use Rattle.agent.specs.declared.response.Response as code
 use Rattle.agent.specs.declared.response.Response.TheVariants as variants

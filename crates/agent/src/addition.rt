@@ -1,7 +1,7 @@
 //! A key pair that an agent is given.
 
 ghost use Rattle.std.specs.Prelude.{◌≡◌, ◌+◌, ◌^◌, false};
-ghost use Rattle.ssh_key.specs.pairs.PairKinds.{is_encrypted};
+ghost use Rattle.ssh_key.specs.pairs.Keypairs.{is_encrypted};
 
 use ssh_key::encoding::{Bytes, Decode, Encode, NormalForm, Reader, Writer, both_len, encode_both};
 use ssh_key::private::KeypairData;

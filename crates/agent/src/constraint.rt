@@ -6,8 +6,8 @@ ghost use Rattle.ssh_key.specs.base.Formats.{Stops};
 ghost use Rattle.ssh_key.specs.base.Needs.{Asks};
 ghost use Rattle.ssh_key.specs.base.Reading.{Gives};
 ghost use Rattle.ssh_key.specs.base.Source.{Later};
-ghost use Rattle.agent.specs.Constraints as model;
-ghost use Rattle.agent.specs.Constraints.{IsWellFormedConstraint, body_format, constraint, constraint_format, constraint_of};
+ghost use Rattle.agent.specs.Records as model;
+ghost use Rattle.agent.specs.Records.{IsWellFormedConstraint, body_format, constraint, constraint_format, constraint_of};
 
 mod kind;
 

@@ -8,7 +8,7 @@ ghost use Rattle.ssh_key.specs.base.Needs.{Asks};
 ghost use Rattle.ssh_key.specs.base.Reading.{Gives};
 ghost use Rattle.ssh_key.specs.base.Source.{Later};
 ghost use Rattle.ssh_key.specs.model.Reading.{Fault};
-ghost use Rattle.agent.specs.Parts.{numbered};
+ghost use Rattle.agent.specs.Records.{numbered};
 
 use ssh_key::Result;
 use ssh_key::encoding::{Decode, Reader};

@@ -1,5 +1,5 @@
 -- What a verdict, an entry and a line decide.
-use Rattle.std.proofs.Common.{◌≡◌, ◌≢◌, ◌⊎◌, ◌↔◌, ◌==◌, ◌∙◌, ℕ, List, [], ◌∷◌, ◌++◌, length, slice_index, eqb-true, arith, sym, ap, Bool, true, false, Option, Some, None, Result, Ok, Err, IfErr, IfOk, IsTrue, refl, subst, inl, inr}
+use Rattle.std.proofs.Common.{◌≡◌, ◌≢◌, ◌⊎◌, ◌↔◌, ◌==◌, ◌∙◌, ℕ, List, [], ◌∷◌, ◌++◌, length, slice_index, eqb-true, arith, sym, ap, Bool, true, false, Option, Some, None, Result, Ok, Err, IfErr, IfOk, IsTrue, refl, subst, inl, inr, zero, suc}
 use Rattle.std.specs.Str.{IsUtf8}
 use Rattle.sshkey_base.specs.Acceptance.{AcceptsExactly}
 use Rattle.sshkey_base.specs.Causes.{NoMemory, cause}
@@ -7,12 +7,11 @@ use Rattle.sshkey_base.specs.Reading.{NoSpelling}
 use Rattle.sshkey_base.specs.Source.{IsSound, all_of}
 use Rattle.sshkey_entries.specs.AuthorizedKeys.{AuthorizedKey}
 use Rattle.sshkey_authorized_keys.proofs.OptionEnds.{bad_key, comment_read, options_read, uncut}
-use Rattle.sshkey_authorized_keys.specs.OpenSshFaults.{HasNoEnd}
+use Rattle.sshkey_authorized_keys.specs.OpenSshEntries.{HasNoEnd}
 use Rattle.sshkey_entries.proofs.OneEntry.{one_end}
 use Rattle.sshkey_entries.proofs.OneOpenSshLine.{same_front}
 use Rattle.sshkey_entries.specs.Entries.{hash_sign}
-use Rattle.sshkey_entries.specs.Fields.{AreKeyFields, AreNoKeyFields, without_blanks}
-use Rattle.sshkey_entries.specs.OptionEnds.{EndsOptions}
+use Rattle.sshkey_entries.specs.Fields.{AreKeyFields, AreNoKeyFields, without_blanks, EndsOptions}
 use Rattle.sshkey_entries.specs.Laws.{EntriesDetermineValues}
 use Rattle.sshkey_entries.specs.OpenSshLines.{IsAfterOptions, IsAuthorizedLine}
 use Rattle.sshkey_entries.specs.Patterns.{MatchesList}
@@ -28,12 +27,11 @@ use Rattle.sshkey_base.specs.declared.error.Error.{Error}
 use Rattle.sshkey_base.specs.declared.error.Error.TheVariants.{Encoding, Memory}
 use Rattle.sshkey_base.specs.declared.encoding.Error.TheVariants.{Length}
 use Rattle.sshkey_base.proofs.Acceptance.{other_cause}
-use Rattle.allowed_signers.specs.AllowedSigners.{AllowsSigner, AnswersYesOrNo, HasEntryFor, HasSignature, HasSigned, IsEntryFor, IsNo, IsRefusalFor, OkExactly, OptionsPermit, ReadsSignature, bare_entry}
-use Rattle.sshkey_entries.specs.Readings.{IsTheOne}
-use Rattle.allowed_signers.specs.Principals.{ArePrincipals}
-use Rattle.allowed_signers.specs.SignerOptions.{AreTerms, Permits, Terms, terms_of}
+use Rattle.allowed_signers.specs.AllowedSigners.{AllowsSigner, AnswersYesOrNo, HasEntryFor, HasSignature, HasSigned, IsEntryFor, IsNo, IsRefusalFor, OkExactly, OptionsPermit, ReadsSignature, bare_entry, ArePrincipals, AreTerms, Permits, Terms, terms_of}
+use Rattle.sshkey_entries.specs.Answers.{IsTheOne}
 use Rattle.allowed_signers.specs.declared.options.SignerOptions.{SignerOptions}
 use Rattle.allowed_signers.specs.declared.signers.SignerRefusal.{SignerRefusal}
+use Rattle.std.specs.List.{Any}
 
 is_no : false ≡ true → ⊥
 is_no same = cc
@@ -167,3 +165,13 @@ module _ (identity namespace : List ℕ) (time : ℕ) (key : Key) (line : List �
         told_as (HasEntryFor namespace time key rest) (AllowsSigner identity namespace time key line)
         (λ entry. record { no_zero = no_zero; principals = principals; rest = rest; front = front; listed = listed; entry = entry })
         (λ a. subst (λ (p : List ℕ × List ℕ). HasEntryFor namespace time key p.1) (one (a.principals, a.rest) a.front) a.entry)
+
+-- Whether one of some lines has a property, one after the other.
+
+module _ {X : Type 0} (P : X → Type 0) where
+  pub later : (x : X) (rest : List X) → Any P rest → Any P (x ∷ rest)
+  later x rest any = (suc any.0, any.1, omega (arith, any.2), any.3, any.4)
+
+  pub not_first : (x : X) (rest : List X) → (P x → ⊥) → Any P (x ∷ rest) → Any P rest
+  not_first x rest none (zero, y, l, is, p) = absurd (none (subst P (sym is) p))
+  not_first x rest none (suc k, y, l, is, p) = (k, y, omega (arith, l), is, p)

@@ -4,17 +4,14 @@ use Rattle.std.specs.Char.{to_ascii_lowercase}
 use Rattle.std.specs.List.{list_all}
 use Rattle.std.proofs.lemmas.Bool.Decides.{Decides-eqb, Decides-not, not_from_Decides}
 use Rattle.std.proofs.lemmas.Slice.Eq.{bytes_eq-Decides}
-use Rattle.sshkey_entries.specs.Fields.{EndsField, IsField}
-use Rattle.sshkey_entries.specs.OptionEnds.{is_blank}
-use Rattle.sshkey_entries.specs.OptionItems.{IsSameName, quote}
-use Rattle.sshkey_entries.specs.Words.{Names}
+use Rattle.sshkey_entries.specs.Fields.{EndsField, IsField, is_blank}
+use Rattle.sshkey_entries.specs.OptionItems.{IsSameName, quote, Names}
 use Rattle.sshkey_entries.proofs.Fields.{same_field}
 use Rattle.sshkey_model.specs.Keys.{Key, Ed25519}
 use Rattle.sshkey_model.specs.Lines.{IsWithout}
 use Rattle.sshkey_matching.specs.Patterns.{MatchesList}
 use Rattle.sshkey_matching.proofs.PatternTests.{decides_all, decides_list, matches_list}
-use Rattle.allowed_signers.specs.AllowedSigners.{AllowsSigner}
-use Rattle.allowed_signers.specs.Principals.{HasPrincipals}
+use Rattle.allowed_signers.specs.AllowedSigners.{AllowsSigner, HasPrincipals}
 
 pub never : false ≡ true → ⊥
 never e = cc

@@ -4,17 +4,15 @@ use Rattle.std.proofs.Math.Seq.{get_or-append_seam}
 use Rattle.std.proofs.lemmas.List.{length-append}
 use Rattle.std.specs.List.{All}
 use Rattle.std.specs.Prelude.{position, slice_index}
-use Rattle.sshkey_entries.specs.Fields.{EndsField}
+use Rattle.sshkey_entries.specs.Fields.{EndsField, is_blank, CutsField}
 use Rattle.sshkey_entries.specs.Items.{is_quote}
 use Rattle.sshkey_entries.specs.OptionItems.{quote}
 use Rattle.sshkey_matching.proofs.PatternLists.{none_before, none_there, parts_at}
-use Rattle.sshkey_entries.specs.OptionEnds.{is_blank}
-use Rattle.sshkey_entries.specs.Cuts.{CutsField}
 use Rattle.sshkey_model.specs.Lines.{IsWithout}
-use Rattle.sshkey_public.specs.OneLine.{carriage_return}
+use Rattle.sshkey_public.specs.WrittenLines.{carriage_return}
 use Rattle.sshkey_entries.proofs.Fields.{same_field}
-use Rattle.sshkey_entries.specs.Readings.{IsTheOne}
-use Rattle.allowed_signers.specs.Principals.{ArePrincipals, CutsFirst, CutsQuote, IsFront, IsPlainFront, IsUnquoted, parts_of}
+use Rattle.sshkey_entries.specs.Answers.{IsTheOne}
+use Rattle.allowed_signers.specs.AllowedSigners.{ArePrincipals, CutsFirst, CutsQuote, IsFront, IsPlainFront, IsUnquoted, parts_of}
 use denote.Ref.{Bor}
 
 abbrev Parts : Type 0

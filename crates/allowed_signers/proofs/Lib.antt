@@ -1,4 +1,3 @@
 mod Decisions
 mod Fronts
-mod SomeLine
 mod ExampleLemmas

@@ -2,7 +2,7 @@
 -- thing changed (ssh-keygen(1), ALLOWED SIGNERS; sshsig.c of OpenSSH).
 use Rattle.std.specs.Prelude.{ℕ, List, [], ◌∷◌, ◌++◌, true, false, Some, None, codes}
 use Rattle.sshkey_entries.specs.AuthorizedKeys.{AuthorizedKey}
-use Rattle.sshkey_entries.specs.Words.{Names}
+use Rattle.sshkey_entries.specs.OptionItems.{Names}
 use Rattle.sshkey_model.specs.CertificateExamples.{authority}
 use Rattle.sshkey_model.specs.KeyExamples.{ed25519_key, ed25519_point}
 use Rattle.sshkey_model.specs.Keys.{Key, SkEd25519}
@@ -10,9 +10,7 @@ use Rattle.sshkey_model.specs.Names.{Algorithm, Sha512}
 use Rattle.sshkey_model.specs.SshSignatures.{SshSignature}
 use Rattle.sshkey_matching.specs.Times.{IsTimeText}
 use Rattle.sshkey_matching.specs.declared.times.Span.{Span}
-use Rattle.allowed_signers.specs.AllowedSigners.{AllowsSigner, Counts, HasSigned, IsAllowed, IsEntryFor}
-use Rattle.allowed_signers.specs.Principals.{HasPrincipals}
-use Rattle.allowed_signers.specs.SignerOptions.{AddsValue, AreTerms, AreTimesInOrder, Permits, Terms, no_terms, words}
+use Rattle.allowed_signers.specs.AllowedSigners.{AllowsSigner, Counts, HasSigned, IsAllowed, IsEntryFor, HasPrincipals, AddsValue, AreTerms, AreTimesInOrder, Permits, Terms, no_terms, words}
 use Rattle.allowed_signers.specs.declared.options.Word.{Word}
 use Rattle.allowed_signers.specs.declared.options.Word.TheVariants.{CertAuthority, Namespaces, ValidAfter, ValidBefore}
 

@@ -1,4 +1,2 @@
-pub mod SignerOptions
-pub mod Principals
 pub mod AllowedSigners
 pub mod Examples

@@ -4,8 +4,8 @@ ghost use Rattle.std.specs.Prelude.{◌≡◌, ◌↔◌, IsTrue, position, slic
 ghost use Rattle.sshkey_entries.specs.Items.{is_quote};
 ghost use Rattle.sshkey_entries.specs.OptionItems.{quote};
 ghost use Rattle.sshkey_model.specs.Lines.{IsWithout};
-ghost use Rattle.sshkey_entries.specs.Readings.{IsTheOne};
-ghost use Rattle.allowed_signers.specs.Principals.{ArePrincipals, CutsQuote, IsFront, IsPlainFront, parts_of};
+ghost use Rattle.sshkey_entries.specs.Answers.{IsTheOne};
+ghost use Rattle.allowed_signers.specs.AllowedSigners.{ArePrincipals, CutsQuote, IsFront, IsPlainFront, parts_of};
 
 use sshkey_entries::bytes::split_blank;
 

@@ -2,9 +2,9 @@
 
 ghost use Rattle.std.specs.Prelude.{◌≡◌, ◌↔◌, ◌≤◌, IfOk, IfSome, IsTrue, option_map, string_bytes};
 ghost use Rattle.sshkey_entries.specs.Patterns.{MatchesList};
-ghost use Rattle.sshkey_entries.specs.Readings.{IsTheOne, Tells};
-ghost use Rattle.sshkey_entries.specs.Words.{FindsWord};
-ghost use Rattle.allowed_signers.specs.SignerOptions.{AddsOption, AddsValue, AreTerms, AreTimesInOrder, IsTimeValue, Permits, Terms, no_terms, terms_of, words};
+ghost use Rattle.sshkey_entries.specs.Answers.{IsTheOne, Tells};
+ghost use Rattle.sshkey_entries.specs.OptionItems.{FindsWord};
+ghost use Rattle.allowed_signers.specs.AllowedSigners.{AddsOption, AddsValue, AreTerms, AreTimesInOrder, IsTimeValue, Permits, Terms, no_terms, terms_of, words};
 
 use sshkey_authorized_keys::read_options;
 use sshkey_entries::{AddOptions, LetterCase, Reading, find_word, matches_pattern_list};

@@ -1,7 +1,7 @@
 -- What a builder that was told of a request signs.
 use Rattle.std.proofs.Common.{◌≡◌, ◌≢◌, ◌∙◌, ℕ, List, [], ◌∷◌, Bool, Result, Ok, Err, IfOk, IfErr, subst, sym}
 use Rattle.std.specs.Prelude.{Option, None, Some, IsNone, IsSome, option_map, string_bytes}
-use Rattle.ssh_key.specs.cert.CertificateValues.{certificate_of, comment_of}
+use Rattle.ssh_key.specs.cert.Certificates.{certificate_of, comment_of}
 use Rattle.ssh_key.specs.cert.Signing.{PermitsToSign, RefusesToSign}
 use Rattle.ssh_key.specs.cert_builder.Builders.{IsValidExactlyIn, RefusesAlways, field_error, no_principals}
 use Rattle.ssh_key.specs.keys.Keys.{key_of}
@@ -13,7 +13,7 @@ use Rattle.ssh_key.specs.model.Names.{Sha256}
 use Rattle.ssh_key.specs.model.Verification.{Question}
 use Rattle.ssh_key.specs.types.Certificate.{Certificate}
 use Rattle.ssh_key.specs.types.Error.{Error}
-use Rattle.authority.specs.Requests.{CertifiesExactly, extensions_of, fields_for, names_of}
+use Rattle.authority.specs.Issuance.{CertifiesExactly, extensions_of, fields_for, names_of}
 use Rattle.authority.specs.declared.request.Request.{Request}
 use Rattle.authority.proofs.Drafts.{draft_for, not_none, signed_fields, some_names, with_names}
 

@@ -5,7 +5,7 @@ use Rattle.ssh_key.specs.model.Certificates.{SignedFields, User}
 use Rattle.ssh_key.specs.model.Drafts.{Draft, KeyId, Principal, Serial, after_step, after_steps, begun, drafted, or_stays}
 use Rattle.ssh_key.specs.model.Keys.{Key}
 use Rattle.ssh_key.specs.model.OptionMaps.{value_of, with_option}
-use Rattle.authority.specs.Requests.{added, flag, with_flag, with_flags}
+use Rattle.authority.specs.Issuance.{added, flag, with_flag, with_flags}
 
 -- none, or these
 abbrev pub with_names : List (List ℕ) → Option (List (List ℕ))

@@ -15,8 +15,7 @@ use Rattle.ssh_key.specs.model.OptionMaps.{value_of, with_option}
 use Rattle.ssh_key.specs.model.Options.{AreOptions, CertificateOption, Rises, is_after, is_below}
 use Rattle.ssh_key.specs.model.Reading.{IsChain}
 use Rattle.ssh_key.specs.model.Texts.{IsText}
-use Rattle.authority.specs.CertifiedKeys.{is_among}
-use Rattle.authority.specs.Requests.{IsWithinLimits, extensions_of, fields_for, flag, with_flag, with_flags}
+use Rattle.authority.specs.Issuance.{is_among, IsWithinLimits, extensions_of, fields_for, flag, with_flag, with_flags}
 use Rattle.authority.specs.declared.keys.KeyKinds.{KeyKinds}
 use Rattle.authority.specs.declared.limits.Limits.{Limits}
 use Rattle.authority.specs.declared.request.Request.{Request}

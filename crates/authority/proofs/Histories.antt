@@ -1,6 +1,6 @@
 -- What holds of histories of serial numbers.
 use Rattle.std.proofs.Common.{ℕ, zero, suc, ◌+◌, ◌<◌, ◌≤◌, List, [], ◌∷◌, ◌++◌, length, slice_index, arith}
-use Rattle.authority.specs.Serials.{IsHistory}
+use Rattle.authority.specs.Issuance.{IsHistory}
 
 weaker : (a b to : ℕ) (ss : List ℕ) → a ≤ b → IsHistory b ss to → IsHistory a ss to
 weaker a b to [] le h = omega (arith, le, h)

@@ -8,7 +8,7 @@ use Rattle.std.proofs.lemmas.List.Folds.{list_all-map}
 use Rattle.std.proofs.lemmas.List.Sums.{AllPass-from_list_all, list_all-from_AllPass}
 use Rattle.std.proofs.lemmas.Slice.Eq.{bytes_eq-Decides}
 use Rattle.ssh_key.specs.model.Lines.{IsWithout}
-use Rattle.authority.specs.Requests.{IsAllowedName, has_no_zero, is_allowed}
+use Rattle.authority.specs.Issuance.{IsAllowedName, has_no_zero, is_allowed}
 
 -- a test of each element decides `All`
 pub all_passed : {X : Type 0} (p : X → Bool) (P : X → Type 0) → ((x : X) → (p x ≡ true) ↔ P x) → (xs : List X) → (list_all p xs ≡ true) ↔ All P xs

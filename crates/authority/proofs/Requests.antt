@@ -1,7 +1,7 @@
 -- What is issued, and what is used up.
 use Rattle.std.proofs.Common.{◌≡◌, ap, ℕ, ◌+◌, ◌<◌, ◌^◌, List, Bool, true, false, None, Result, Ok, Err, IfOk, nat_lt, refl, inr, arith}
 use Rattle.std.proofs.lemmas.Bool.Decides.{nat_tests}
-use Rattle.ssh_key.specs.cert.CertificateValues.{certificate_of}
+use Rattle.ssh_key.specs.cert.Certificates.{certificate_of}
 use Rattle.ssh_key.specs.keys.Keys.{key_of}
 use Rattle.ssh_key.specs.model.Certificates.{AreSignedFields, SignedFields, is_time}
 use Rattle.ssh_key.specs.model.Drafts.{bad_window}
@@ -9,8 +9,7 @@ use Rattle.ssh_key.specs.model.Keys.{IsKey, Key}
 use Rattle.ssh_key.specs.model.Verification.{Question}
 use Rattle.ssh_key.specs.types.Certificate.{Certificate}
 use Rattle.ssh_key.specs.types.Error.{Error}
-use Rattle.authority.specs.Requests.{CertifiesExactly, IsLeft, IsWithinLimits, IssuesExactly, OtherExtensions, OtherKey, OtherKeyId, OtherUsers, OtherWindow, RefusesRequest}
-use Rattle.authority.specs.Serials.{IsHistory, serial_of}
+use Rattle.authority.specs.Issuance.{CertifiesExactly, IsLeft, IsWithinLimits, IssuesExactly, OtherExtensions, OtherKey, OtherKeyId, OtherUsers, OtherWindow, RefusesRequest, IsHistory, serial_of}
 use Rattle.authority.specs.declared.limits.Limits.{Limits}
 use Rattle.authority.specs.declared.request.Request.{Request}
 use Rattle.authority.proofs.Forms.{are_fields}

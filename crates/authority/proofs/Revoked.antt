@@ -3,10 +3,9 @@ use Rattle.std.proofs.Common.{◌≡◌, inl, inr, ℕ, Bool, true, false, not, 
 use Rattle.std.proofs.lemmas.Bool.{eqb-true}
 use Rattle.std.specs.Prelude.{◌==◌, bytes_eq}
 use Rattle.std.specs.List.{list_any}
-use Rattle.ssh_key.specs.krl.Revocation.{Certificates, Krl, Numbers, Section, Signer, begun, with_section}
-use Rattle.ssh_key.specs.krl.Serials.{Listed}
-use Rattle.ssh_key.specs.krl.Sections.{is_read_signer}
-use Rattle.ssh_key.specs.krl.Written.{RefusesToWrite, certificates_section, has_zero, header, serials_part}
+use Rattle.ssh_key.specs.krl.Revocation.{Certificates, Krl, Numbers, Section, Signer, begun, with_section, Listed}
+use Rattle.ssh_key.specs.krl.Krls.{is_read_signer}
+use Rattle.ssh_key.specs.krl.Writing.{RefusesToWrite, certificates_section, has_zero, header, serials_part}
 use Rattle.ssh_key.specs.model.Keys.{Key, normal_key}
 use Rattle.ssh_key.specs.model.Parts.{BoxesFit, flat}
 use Rattle.ssh_key.specs.types.Error.{Error}

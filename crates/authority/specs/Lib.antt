@@ -1,4 +1,2 @@
-pub mod CertifiedKeys
-pub mod Requests
-pub mod Serials
+pub mod Issuance
 pub mod Revoked

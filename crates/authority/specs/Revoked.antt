@@ -2,8 +2,8 @@
 use Rattle.std.specs.Prelude.{◌≡◌, ◌⊎◌, ◌&&◌, ◌==◌, ℕ, List, Bool, false, bytes_eq}
 use Rattle.std.specs.List.{list_any}
 use Rattle.ssh_key.specs.krl.Revocation.{CertificateIdentity, Krl, Signer, revokes, revokes_key}
-use Rattle.ssh_key.specs.krl.Sections.{is_read_signer}
-use Rattle.ssh_key.specs.krl.Written.{certificates_section, serials_part}
+use Rattle.ssh_key.specs.krl.Krls.{is_read_signer}
+use Rattle.ssh_key.specs.krl.Writing.{certificates_section, serials_part}
 use Rattle.ssh_key.specs.model.Keys.{Key, normal_key}
 use Rattle.ssh_key.specs.model.Parts.{BoxesFit, flat}
 use Rattle.ssh_key.specs.types.Error.{Error}

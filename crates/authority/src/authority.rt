@@ -1,7 +1,7 @@
 //! An authority.
 
 ghost use Rattle.std.specs.Prelude.{◌≡◌, false};
-ghost use Rattle.ssh_key.specs.krl.Written.{has_zero};
+ghost use Rattle.ssh_key.specs.krl.Writing.{has_zero};
 
 use crate::certify::certify;
 use crate::limits::Limits;
@@ -25,14 +25,13 @@ pub struct Authority {
 
 impl Authority {
     ghost use Rattle.std.specs.Prelude.{◌<◌, ◌+◌, ◌⊎◌, ◌↔◌, ◌++◌, ◌∷◌, [], IfErr, IfOk, OnErr, OnOk, IsTrue, Contains};
-    ghost use Rattle.ssh_key.specs.cert.CertificateValues.{certificate_of};
+    ghost use Rattle.ssh_key.specs.cert.Certificates.{certificate_of};
     ghost use Rattle.ssh_key.specs.keys.Keys.{key_of};
-    ghost use Rattle.ssh_key.specs.krl.Owned.{krl_of};
+    ghost use Rattle.ssh_key.specs.krl.Writing.{krl_of};
     ghost use Rattle.ssh_key.specs.model.Certificates.{AreSignedFields};
     ghost use Rattle.ssh_key.specs.model.Keys.{IsKey};
-    ghost use Rattle.authority.specs.Requests.{IsLeft, IssuesExactly, IsWithinLimits, MayIssue, next_of};
+    ghost use Rattle.authority.specs.Issuance.{IsLeft, IssuesExactly, IsWithinLimits, MayIssue, next_of, IsHistory, RefusesSerial, serial_of};
     ghost use Rattle.authority.specs.Revoked.{IsStated, RefusesToList, TakesBack};
-    ghost use Rattle.authority.specs.Serials.{IsHistory, RefusesSerial, serial_of};
 
     /// An authority with these limits that took nothing back, and whose first certificate has that
     /// serial number. No certificate has the number 0: to OpenSSH that is none, and a list of

@@ -4,7 +4,7 @@ ghost use Rattle.std.specs.Prelude.{◌≡◌, ◌≢◌, ◌∷◌, None, [], m
 ghost use Rattle.ssh_key.specs.cert.Signing.{PermitsToSign};
 ghost use Rattle.ssh_key.specs.keys.Keys.{key_of};
 ghost use Rattle.ssh_key.specs.model.Drafts.{bad_window};
-ghost use Rattle.authority.specs.Requests.{AddsEach, CertifiesExactly, NamesEach, fields_for, names_of};
+ghost use Rattle.authority.specs.Issuance.{AddsEach, CertifiesExactly, NamesEach, fields_for, names_of};
 
 use crate::request::Request;
 use ssh_key::certificate::Builder;

@@ -2,7 +2,7 @@
 
 ghost use Rattle.std.specs.Prelude.{◌≡◌, ◌↔◌, IsTrue};
 ghost use Rattle.ssh_key.specs.keys.Keys.{key_of};
-ghost use Rattle.authority.specs.CertifiedKeys.{IsCertifiable, all, is_among};
+ghost use Rattle.authority.specs.Issuance.{IsCertifiable, all, is_among};
 
 use openssh_limits::openssh_accepts_key;
 use ssh_key::public::KeyData;

@@ -1,7 +1,7 @@
 //! What holds of all that an authority gives.
 
 ghost use Rattle.std.specs.Prelude.{ℕ, List, ◌++◌, ◌<◌, length, slice_index};
-ghost use Rattle.authority.specs.Serials.{IsHistory};
+ghost use Rattle.authority.specs.Issuance.{IsHistory};
 
 /// The histories of calls that follow one another are one history, and in a history each serial
 /// number is above those before it: no two certificates have one. None of them is 0 if the first is

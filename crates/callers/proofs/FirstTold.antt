@@ -2,7 +2,7 @@
 use Rattle.std.proofs.Common.{◌≡◌, ◌∙◌, ap, sym, refl, ℕ, suc, ◌+◌, ◌<◌, ◌≤◌, List, ◌∷◌, length, drop, get_or, true, false, add-one, drop-cons}
 use Rattle.std.proofs.Math.ListN.{drop_of_length-le}
 use Rattle.std.specs.Prelude.{replicate}
-use Rattle.callers.specs.Hashed.{hash_among, is_hash_of}
+use Rattle.callers.specs.Answers.{hash_among, is_hash_of}
 use Rattle.callers.specs.declared.hashes.Hashed.{Hashed}
 
 module _ (salt name : List ℕ) (hs : List Hashed) (i : ℕ) (was : hash_among salt name (drop i hs) ≡ hash_among salt name hs) where

@@ -1,7 +1,7 @@
 //! HMAC-SHA1 without arithmetic: it is told what another program computed.
 
 ghost use Rattle.std.specs.Prelude.{◌≡◌};
-ghost use Rattle.callers.specs.Hashed.{hash_among, is_hash_of};
+ghost use Rattle.callers.specs.Answers.{hash_among, is_hash_of};
 
 use crate::words::{NO_LINE, bytes};
 use ssh_key::Result;

@@ -4,7 +4,7 @@ ghost use Rattle.std.specs.Prelude.{◌≡◌};
 ghost use Rattle.std.specs.List.{list_any};
 ghost use Rattle.ssh_key.specs.base.Names.{algorithm_of};
 ghost use Rattle.ssh_key.specs.keys.Keys.{key_of};
-ghost use Rattle.callers.specs.Told.{is_about, same_key};
+ghost use Rattle.callers.specs.Answers.{is_about, same_key};
 
 use crate::words::{NO_LINE, bytes};
 use ssh_key::public::KeyData;

@@ -4,15 +4,15 @@ use Rattle.std.specs.Fmt.{digits}
 use Rattle.std.specs.List.{All, list_all, list_any}
 use Rattle.std.specs.Prelude.{Contains}
 use Rattle.std.proofs.lemmas.Slice.Eq.{bytes_eq-Decides}
-use Rattle.openssh_limits.specs.Read.{AreReadPrincipals}
+use Rattle.openssh_limits.specs.Limits.{AreReadPrincipals, openssh_accepts_key}
 use Rattle.sshkey_matching.specs.AskedHosts.{IsAsked}
 use Rattle.sshkey_matching.proofs.AskedHosts.{one_asked}
-use Rattle.sshkey_entries.specs.HostVerdicts.{IsAuthority}
+use Rattle.sshkey_entries.specs.HostVerdicts.{IsAuthority, Lists}
 use Rattle.sshkey_entries.specs.KnownHosts.{CertAuthority}
 use Rattle.sshkey_known_hosts.specs.Examples.{by_line, host, line}
 use Rattle.sshkey_known_hosts.specs.Hmac.{hmac_sha1}
 use Rattle.sshkey_known_hosts.specs.Verdicts.{IsVerdict}
-use Rattle.sshkey_matching.specs.Commas.{patterns}
+use Rattle.sshkey_matching.specs.Patterns.{patterns}
 use Rattle.sshkey_known_hosts.specs.declared.verdict.Verdict.{Verdict}
 use Rattle.sshkey_known_hosts.specs.declared.verdict.Verdict.TheVariants as verdict
 use Rattle.sshkey_known_hosts.proofs.ExampleLemmas.{apart, host_fits, host_line, of_authority, of_each, of_none, of_unnamed, pair, said_of_host, unnamed_at_port}
@@ -25,13 +25,10 @@ use Rattle.sshkey_model.specs.Lines.{IsWithout}
 use Rattle.sshkey_model.specs.Options.{CertificateOption}
 use Rattle.sshkey_model.proofs.Base64Words.{is_other_than}
 use Rattle.sshkey_model.proofs.LineTests.{all_characters, lacks}
-use Rattle.openssh_limits.specs.Keys.{openssh_accepts_key}
 use Rattle.sshkey_cert.specs.Validity.{IsSigned}
-use Rattle.sshkey_entries.specs.HostVerdicts.{Lists}
 use Rattle.host_keys.specs.Examples.{TrustsFields, fields, of_fields, trusted_by}
 use Rattle.host_keys.specs.Hosts.{AreForHosts, HasTrustedKey, HostCheck, IsHostKey, IsSaidOfKey, IsSaidOfSigned, IsVerdictOfSigned}
-use Rattle.host_keys.proofs.Said.{one_said}
-use Rattle.host_keys.proofs.Signed.{one_verdict as one_signed}
+use Rattle.host_keys.proofs.HostKeys.{one_said, one_verdict as one_signed}
 
 pub never : false ≡ true → ⊥
 never e = cc

@@ -1,9 +1,5 @@
-mod AskedNames
+mod HostKeys
 mod Certificates
-mod CertifiedKeys
 mod ExampleLemmas
-mod Listed
-mod Said
+mod SeveralTexts
 pub mod SameAnswers
-pub mod SeveralTexts
-mod Signed

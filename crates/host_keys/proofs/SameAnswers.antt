@@ -1,21 +1,20 @@
 -- What is answered of a host by other lines that say the same of it.
 use Rattle.std.proofs.Common.{◌≡◌, ◌≢◌, ◌⊎◌, ◌↔◌, ℕ, Bool, List, IfErr, Result, Ok, Err, inl, inr, refl, subst, sym}
-use Rattle.sshkey_known_hosts.specs.SameLines.{SaySame}
+use Rattle.sshkey_known_hosts.specs.HeldLines.{SaySame}
 use Rattle.sshkey_known_hosts.specs.Verdicts.{IsVerdict}
 use Rattle.sshkey_known_hosts.specs.declared.verdict.Verdict.{Verdict}
 use Rattle.sshkey_known_hosts.specs.declared.verdict.Verdict.TheVariants.{Changed, Revoked, Trusted, Unknown, Unreadable}
-use Rattle.sshkey_entries.specs.HostNames.{known_name}
+use Rattle.sshkey_entries.specs.HostVerdicts.{known_name}
 use Rattle.sshkey_matching.specs.AskedHosts.{IsAsked, IsHostFault}
 use Rattle.sshkey_matching.specs.declared.host.HostFault.TheVariants as fault
-use Rattle.openssh_limits.specs.Keys.{openssh_accepts_key}
+use Rattle.openssh_limits.specs.Limits.{openssh_accepts_key}
 use Rattle.sshkey_krl.specs.Revocation.{CertificateIdentity}
 use Rattle.sshkey_krl.specs.Revocations.{is_certificate_revoked, is_key_revoked}
 use Rattle.sshkey_model.specs.Certificates.{Certificate}
 use Rattle.sshkey_model.specs.Keys.{Key}
 use Rattle.sshkey_model.specs.Verification.{Question}
 use Rattle.host_keys.specs.Answers.{IsWhy, IsWhyNoCertifiedKey, IsWhyNoKey, IsWhyUnknown, NoMemory, NotRead, OtherKey, RefusesAsked, RefusesHostCertificate, RefusesHostKey, Unsigned}
-use Rattle.host_keys.specs.HeldHosts.{SayTheSame}
-use Rattle.host_keys.specs.Hosts.{HostCheck, IsBadFor, IsEitherRevoked, IsHostCertificate, IsHostKey, IsKnownBy, IsSaid, IsSaidOfKey, IsSaidOfSigned, IsTrustedCertificate, IsTrustedKey, IsVerdictOfSigned, OfAsked, are_accepted, plain_name}
+use Rattle.host_keys.specs.Hosts.{SayTheSame, HostCheck, IsBadFor, IsEitherRevoked, IsHostCertificate, IsHostKey, IsKnownBy, IsSaid, IsSaidOfKey, IsSaidOfSigned, IsTrustedCertificate, IsTrustedKey, IsVerdictOfSigned, OfAsked, are_accepted, plain_name}
 use Rattle.host_keys.specs.declared.known_by.KnownBy.{KnownBy}
 use Rattle.host_keys.specs.declared.known_by.KnownBy.TheVariants.{Authority, CertifiedKey}
 use Rattle.host_keys.specs.declared.refusal.HostRefusal.{HostRefusal}

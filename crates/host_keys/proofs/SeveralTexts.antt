@@ -1,13 +1,28 @@
--- What the lines of several texts say, one text more at a time.
-use denote.Ref.{Bor}
-use Rattle.std.proofs.Common.{◌≡◌, ℕ, ◌+◌, ◌<◌, ◌≤◌, List, [], ◌++◌, Result, Ok, Err, IfErr, get_or, length, take, drop, inl, inr, sym, ap, subst, ◌∙◌, arith}
-use Rattle.std.proofs.lemmas.Grind.{flat_map-append}
-use Rattle.std.proofs.lemmas.List.{flat_map_more, take-append-drop, take_all, take_more}
-use Rattle.std.proofs.lemmas.List.Folds.{length-flat_map-take}
+-- Whether one of a list has a property, one after the other.
+use Rattle.std.proofs.Common.{◌≡◌, ℕ, ◌<◌, ◌≤◌, ◌+◌, List, get_or, length, sym, subst, ◌∙◌, arith, inl, inr, [], ◌++◌, Result, Ok, Err, IfErr, take, drop, ap}
+use Rattle.std.proofs.lemmas.Bool.{cases_lt}
+use Rattle.std.proofs.lemmas.List.{get_or_default, flat_map_more, take-append-drop, take_all, take_more}
 use Rattle.std.specs.List.{Any}
+use denote.Ref.{Bor}
+use Rattle.std.proofs.lemmas.Grind.{flat_map-append}
+use Rattle.std.proofs.lemmas.List.Folds.{length-flat_map-take}
 use Rattle.sshkey_entries.specs.Fields.{filled_lines}
 use Rattle.sshkey_known_hosts.proofs.Verdicts.{first, later, either}
 use Rattle.host_keys.specs.Hosts.{lines_of}
+
+module _ {X : Type 0} (P : X → Type 0) (xs : List X) (i : ℕ) where
+  pub none_more : (x : X) → i < length xs → get_or xs i x ≡ x → (P x → ⊥) → ((k : ℕ) (d : X) → k < i → P (get_or xs k d) → ⊥) → (k : ℕ) (d : X) → k < i + 1 → P (get_or xs k d) → ⊥
+  none_more x lt is none before k d l = elim (cases_lt k i) [
+    | inl less ↦ before k d less
+    | inr same ↦
+        let e : k ≡ i = omega (arith, l, same) in
+        λ p. none (subst P (get_or_default xs i d x lt ∙ is) (subst (λ (n : ℕ). P (get_or xs n d)) e p))
+  ]
+
+  pub none_of : length xs ≤ i → ((k : ℕ) (d : X) → k < i → P (get_or xs k d) → ⊥) → Any P xs → ⊥
+  none_of end none some = none some.0 some.1 (omega (arith, some.2, end)) (subst P (sym some.3) some.4)
+
+-- What the lines of several texts say, one text more at a time.
 
 -- ---- one text more
 

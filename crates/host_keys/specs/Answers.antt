@@ -1,13 +1,13 @@
 -- What is answered about a host, and why it is refused.
 use Rattle.std.specs.Prelude.{◌≡◌, ◌≢◌, ◌⊎◌, ◌<◌, length, ℕ, List, Bool, true, false, IsTrue, Result, Ok, Err, if◌then◌else◌}
-use Rattle.openssh_limits.specs.Keys.{openssh_accepts_key}
+use Rattle.openssh_limits.specs.Limits.{openssh_accepts_key}
 use Rattle.sshkey_matching.specs.AskedHosts.{IsHostFault}
 use Rattle.sshkey_matching.specs.declared.host.HostFault.{HostFault}
 use Rattle.sshkey_matching.specs.declared.host.HostFault.TheVariants as fault
 use Rattle.sshkey_base.specs.Reading.{NoSpelling}
 use Rattle.sshkey_cert.specs.Validity.{IsSigned}
 use Rattle.sshkey_cert.specs.declared.certificate.refusal.CertificateRefusal.TheVariants.{Signature}
-use Rattle.sshkey_cert.specs.Faults.{IsFaultOf}
+use Rattle.sshkey_cert.specs.Certificates.{IsFaultOf}
 use Rattle.sshkey_krl.specs.Revocation.{CertificateIdentity}
 use Rattle.sshkey_krl.specs.Revocations.{is_certificate_revoked, is_key_revoked}
 use Rattle.sshkey_model.specs.Certificates.{Certificate, normal_certificate, SpellsCertificate}

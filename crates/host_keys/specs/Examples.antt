@@ -20,8 +20,7 @@ use Rattle.sshkey_base.specs.declared.error.Error.TheVariants.{CertificateFieldI
 use Rattle.sshkey_cert.specs.declared.certificate.refusal.CertificateRefusal.TheVariants.{Signature, Window}
 use Rattle.host_keys.specs.Answers.{IsWhy, IsWhyNoCertifiedKey, IsWhyUnknown, KnownExactly, answer_of, is_final, of_both, verdict_answer}
 use Rattle.host_keys.specs.declared.known_by.KnownBy.TheVariants.{Authority, CertifiedKey}
-use Rattle.host_keys.specs.Hosts.{AreForHosts, HasOtherField, HasTrustedKey, HostCheck, IsGoodFor, IsHostKey, IsKnownBy, IsSaid, IsSettled, IsTrustedByKey, IsTrustedCertificate, IsTrustedKey, IsUnread, IsVerdictOfSigned, OfAsked, are_accepted, login_of, plain_name}
-use Rattle.host_keys.specs.HeldHosts.{RanOut, SayTheSame, held_login}
+use Rattle.host_keys.specs.Hosts.{AreForHosts, HasOtherField, HasTrustedKey, HostCheck, IsGoodFor, IsHostKey, IsKnownBy, IsSaid, IsSettled, IsTrustedByKey, IsTrustedCertificate, IsTrustedKey, IsUnread, IsVerdictOfSigned, OfAsked, are_accepted, login_of, plain_name, RanOut, SayTheSame, held_login}
 use Rattle.host_keys.specs.declared.host_check.HostCheck as code
 use Rattle.host_keys.specs.declared.refusal.HostRefusal.{HostRefusal}
 use Rattle.host_keys.specs.declared.refusal.HostRefusal.TheVariants as refusal

@@ -2,15 +2,13 @@
 -- revoked (ssh(1), "VERIFYING HOST KEYS"; sshd(8), "SSH_KNOWN_HOSTS FILE FORMAT"; ssh_config(5),
 -- RevokedHostKeys; PROTOCOL.certkeys).
 use denote.Ref.{Bor}
-use Rattle.openssh_limits.specs.Keys.{openssh_accepts_key}
-use Rattle.openssh_limits.specs.Read.{AreReadPrincipals}
+use Rattle.openssh_limits.specs.Limits.{openssh_accepts_key, AreReadPrincipals}
 use Rattle.std.specs.List.{flat_map}
-use Rattle.std.specs.Prelude.{◌≡◌, ◌≢◌, ◌⊎◌, ℕ, List, [], ◌∷◌, Bool, ◌&&◌, false, IsTrue, Some}
-use Rattle.sshkey_matching.specs.AskedHosts.{IsAsked}
+use Rattle.std.specs.Prelude.{◌≡◌, ◌≢◌, ◌⊎◌, ℕ, List, [], ◌∷◌, Bool, ◌&&◌, false, IsTrue, Some, ◌++◌}
+use Rattle.sshkey_matching.specs.AskedHosts.{IsAsked, IsHostFault}
 use Rattle.sshkey_cert.specs.Validity.{IsSigned, refusal_of}
 use Rattle.sshkey_entries.specs.Fields.{filled_lines}
-use Rattle.sshkey_entries.specs.HostNames.{known_name, standard_port}
-use Rattle.sshkey_entries.specs.HostVerdicts.{HidesSome, IsAuthority, IsRevoked}
+use Rattle.sshkey_entries.specs.HostVerdicts.{known_name, standard_port, HidesSome, IsAuthority, IsRevoked}
 use Rattle.sshkey_known_hosts.specs.Verdicts.{IsVerdict}
 use Rattle.sshkey_krl.specs.Revocation.{CertificateIdentity}
 use Rattle.sshkey_krl.specs.Revocations.{is_certificate_revoked, is_key_revoked}
@@ -33,6 +31,9 @@ use Rattle.host_keys.specs.declared.known_by.KnownBy.{KnownBy}
 use Rattle.host_keys.specs.declared.known_by.KnownBy.TheVariants.{Authority, CertifiedKey}
 use Rattle.host_keys.specs.declared.refusal.HostRefusal.{HostRefusal}
 use Rattle.host_keys.specs.declared.refusal.HostRefusal.TheVariants as refusal
+use Rattle.sshkey_matching.specs.declared.host.HostFault.TheVariants as fault
+use Rattle.sshkey_known_hosts.specs.HeldLines.{held_lines, SaySame}
+use Rattle.sshkey_known_hosts.specs.declared.held_line.HeldLine.{HeldLine}
 
 -- ---- the lines
 
@@ -201,3 +202,16 @@ pub data IsUnread (c : Certificate) : HostRefusal → Type 0 where
   OtherSigner : openssh_accepts_key 0 c.signed.signature_key ≡ false → IsUnread c refusal.UnacceptedKey
   OddKeyId : IsTrue (openssh_accepts_key 0 c.signed.signature_key) → (IsWithout 0 c.signed.key_id → ⊥) → IsUnread c (refusal.Certificate (CertificateFieldInvalid field.KeyId))
   OddPrincipals : IsTrue (openssh_accepts_key 0 c.signed.signature_key) → IsWithout 0 c.signed.key_id → (AreReadPrincipals c.signed.valid_principals → ⊥) → IsUnread c (refusal.Certificate (CertificateFieldInvalid field.ValidPrincipals))
+
+-- A host by lines of known_hosts that are held, beside those of its texts.
+
+abbrev pub held_login : code.HostCheck → List HeldLine → (List ℕ → List ℕ → List ℕ) → HostCheck
+held_login l held hmac = record (login_of l hmac) { lines = held_lines held ++ lines_of l.texts.now }
+
+-- Under each name by which the host is asked, these lines say the same as its own.
+abbrev pub SayTheSame : HostCheck → List (List ℕ) → Type 0
+SayTheSame login lines = (name : List ℕ) → IsAsked login.host login.port name → SaySame login.hmac (known_name name login.port) login.lines lines × SaySame login.hmac (plain_name name) login.lines lines
+
+-- Memory ran out, for the name under which the host is asked or after that.
+abbrev pub RanOut : code.HostCheck → HostRefusal → Type 0
+RanOut l r = (r ≡ refusal.Memory) × (IsHostFault l.host.now l.port fault.Memory ⊎ ((name : List ℕ) × IsAsked l.host.now l.port name))

@@ -1,4 +1,3 @@
 pub mod Hosts
 pub mod Answers
 pub mod Examples
-pub mod HeldHosts

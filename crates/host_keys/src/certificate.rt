@@ -1,8 +1,8 @@
 //! By what a host that shows a certificate is known.
 
 ghost use Rattle.std.specs.Prelude.{◌≡◌, ◌≢◌, ◌⊎◌, ◌↔◌, IfErr, IsOk, IsTrue, map, string_bytes, true};
-ghost use Rattle.sshkey_matching.specs.Likeness.{is_like_address};
-ghost use Rattle.sshkey_cert.specs.CertificateValues.{certificate_of};
+ghost use Rattle.sshkey_matching.specs.FromLists.{is_like_address};
+ghost use Rattle.sshkey_cert.specs.Certificates.{certificate_of};
 ghost use Rattle.sshkey_cert.specs.Validity.{FindsRefusal};
 ghost use Rattle.sshkey_keys.specs.Keys.{key_of};
 ghost use Rattle.sshkey_model.specs.Certificates.{IsCertificate, certificate_format};

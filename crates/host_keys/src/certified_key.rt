@@ -1,7 +1,7 @@
 //! Whether the key in a certificate is the host's, whoever signed it.
 
 ghost use Rattle.std.specs.Prelude.{◌≡◌, ◌≢◌, ◌↔◌, IfErr, IsOk};
-ghost use Rattle.sshkey_cert.specs.CertificateValues.{certificate_of};
+ghost use Rattle.sshkey_cert.specs.Certificates.{certificate_of};
 ghost use Rattle.sshkey_cert.specs.Validity.{IsSigned};
 ghost use Rattle.sshkey_cert.specs.declared.certificate.refusal.CertificateRefusal.TheVariants.{Signature};
 ghost use Rattle.host_keys.specs.Answers.{AsksOf, IsWhyNoCertifiedKey, OkExactly};

@@ -4,8 +4,7 @@ ghost use Rattle.std.specs.Prelude.{◌≡◌, ◌≢◌, ℕ, List, IfErr, IfOk
 ghost use Rattle.sshkey_keys.specs.Keys.{key_of};
 ghost use Rattle.openssh_limits.specs.Padding.{padding};
 ghost use Rattle.host_keys.specs.Answers.{KnownExactly, OkExactly, RefusesHostCertificate, RefusesHostKey};
-ghost use Rattle.host_keys.specs.HeldHosts.{RanOut, SayTheSame, held_login};
-ghost use Rattle.host_keys.specs.Hosts.{IsHostCertificate, IsHostKey, lines_of, login_of};
+ghost use Rattle.host_keys.specs.Hosts.{RanOut, SayTheSame, held_login, IsHostCertificate, IsHostKey, lines_of, login_of};
 ghost use Rattle.host_keys.specs.declared.refusal.HostRefusal.TheVariants as refusal;
 
 use crate::certificate::check_certificate;

@@ -1,7 +1,7 @@
 //! Whether a key is the host's.
 
 ghost use Rattle.std.specs.Prelude.{◌≡◌, IfErr, true};
-ghost use Rattle.sshkey_matching.specs.Likeness.{is_like_address};
+ghost use Rattle.sshkey_matching.specs.FromLists.{is_like_address};
 ghost use Rattle.sshkey_keys.specs.Keys.{key_of};
 ghost use Rattle.host_keys.specs.Answers.{AsksOf, IsWhyNoKey, OkExactly, RefusesHostKey};
 ghost use Rattle.host_keys.specs.Hosts.{IsHostKey, IsTrustedKey, lines_of, login_of};

@@ -2,8 +2,7 @@
 
 ghost use Rattle.std.specs.List.{Any};
 ghost use Rattle.std.specs.Prelude.{◌≡◌, ◌↔◌, ◌<◌, length, IfErr, IfOk, IsTrue};
-ghost use Rattle.sshkey_entries.specs.HostNames.{known_name};
-ghost use Rattle.sshkey_entries.specs.HostVerdicts.{IsAuthority};
+ghost use Rattle.sshkey_entries.specs.HostVerdicts.{known_name, IsAuthority};
 ghost use Rattle.sshkey_keys.specs.Keys.{key_of};
 ghost use Rattle.sshkey_known_hosts.specs.Verdicts.{IsVerdict};
 ghost use Rattle.sshkey_model.specs.Keys.{IsKey};

@@ -5,7 +5,7 @@ use Rattle.std.specs.Bool.{Decides}
 use Rattle.std.specs.List.{list_all, list_any}
 use Rattle.std.proofs.lemmas.Bool.Decides.{Decides-by_and, Decides-eqb, Decides-not}
 use Rattle.std.proofs.lemmas.List.Elements.{All-nil}
-use Rattle.openssh_limits.specs.Read.{AreReadPrincipals}
+use Rattle.openssh_limits.specs.Limits.{AreReadPrincipals}
 use Rattle.sshkey_matching.specs.SourceAddresses.{IsNetworks}
 use Rattle.sshkey_krl.specs.Revocations.{is_certificate_revoked}
 use Rattle.sshkey_model.specs.CertificateExamples.{authority}

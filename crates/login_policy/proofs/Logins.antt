@@ -20,8 +20,7 @@ use Rattle.sshkey_model.proofs.Refusals.{allowed as listed_or_none, allows_it}
 use Rattle.sshkey_model.specs.Refusals.{RefuseTheUnwanted, UnlistedPrincipal, allows, first_refusal_for, has_trusted_authority, is_signed, or_else, refusal_of_authority_or_time, unless}
 use Rattle.sshkey_model.specs.Refusals as model
 use Rattle.login_policy.specs.KnownOptions.{source_address}
-use Rattle.login_policy.specs.Logins.{HasRightFields, IsAllowedFrom, IsGrantOf, IsLogin, LetsIn, Login}
-use Rattle.login_policy.specs.Principals.{AreForUser}
+use Rattle.login_policy.specs.Logins.{HasRightFields, IsAllowedFrom, IsGrantOf, IsLogin, LetsIn, Login, AreForUser}
 use Rattle.login_policy.specs.Refusals.{ForHosts, HasWrongField, FromElsewhere, IsRefusalFor, IsRevoked, IsUntrusted, NeedsJudging, NeedsMemory, NotSigned, NotValid, OtherAuthority, OtherExtension, OtherKeyId, OtherPrincipals, RefusesSpelling, Unaccepted, UnknownOption, refusal_but_signature}
 use Rattle.login_policy.specs.declared.client.Client.TheVariants.{At, LeftToCaller, Unknown}
 use Rattle.login_policy.specs.declared.grant.Grant.{Grant}

@@ -1,6 +1,6 @@
 -- What the answer decides of a login that is pending.
 use Rattle.std.proofs.Common.{◌≡◌, ◌≢◌, ℕ, List, [], Bool, true, false, Option, None, Some, IfErr, Result, Ok, Err, is_some, option_map, ap, inl, inr, refl, subst, sym, ◌∙◌}
-use Rattle.sshkey_cert.specs.Questions.{certificate_question}
+use Rattle.sshkey_cert.specs.Validity.{certificate_question}
 use Rattle.sshkey_model.specs.Certificates.{Certificate}
 use Rattle.sshkey_model.specs.Keys.{Key, Dsa, Ecdsa, Ed25519, Rsa, SkEcdsa, SkEd25519}
 use Rattle.sshkey_model.specs.Names.{Algorithm}
@@ -8,8 +8,7 @@ use Rattle.sshkey_model.specs.Points.{curve_eq}
 use Rattle.sshkey_model.specs.Refusals.{RefuseTheUnwanted, is_signed}
 use Rattle.sshkey_model.specs.Signatures.{Signature}
 use Rattle.sshkey_model.specs.Verification.{Question, is_yes, question, question_under}
-use Rattle.login_policy.specs.Logins.{GrantsExactly, IsGrantOf, IsLogin, LetsIn, Login}
-use Rattle.login_policy.specs.Pendings.{AnswersDecide, DecidesBy, IsPending, PendsExactly, certificate_in, unasked}
+use Rattle.login_policy.specs.Logins.{GrantsExactly, IsGrantOf, IsLogin, LetsIn, Login, AnswersDecide, DecidesBy, IsPending, PendsExactly, certificate_in, unasked}
 use Rattle.login_policy.specs.Refusals.{FromElsewhere, IsRevoked, IsUntrusted, NeedsMemory, NotSigned, NotValid, OtherAuthority, RefusesLogin}
 use Rattle.login_policy.specs.declared.grant.Grant.{Grant}
 use Rattle.login_policy.specs.declared.pending_login.Pending.{Pending}

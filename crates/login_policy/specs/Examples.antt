@@ -7,15 +7,18 @@ use Rattle.sshkey_model.specs.CertificateExamples.{authority}
 use Rattle.sshkey_model.specs.Certificates.{Certificate, Host, SignedFields, User, forever}
 use Rattle.sshkey_model.specs.Fingerprints.{fingerprint}
 use Rattle.sshkey_model.specs.KeyExamples.{ed25519_key, rsa_key}
-use Rattle.sshkey_model.specs.Keys.{Dsa, Key}
-use Rattle.sshkey_model.specs.Names.{Algorithm, Sha256}
+use Rattle.sshkey_model.specs.Keys.{Dsa, Key, Ecdsa, Ed25519, Rsa, Opaque, SkEd25519}
+use Rattle.sshkey_model.specs.Names.{Algorithm, Sha256, Nistp256}
 use Rattle.sshkey_model.specs.Options.{CertificateOption}
 use Rattle.login_policy.specs.KnownOptions.{IsKnownOption, IsPlainExtension}
-use Rattle.login_policy.specs.Logins.{IsGrantOf, IsUnbound, LetsIn, Login}
-use Rattle.login_policy.specs.Principals.{AreForUser}
+use Rattle.login_policy.specs.Logins.{IsGrantOf, IsUnbound, LetsIn, Login, AreForUser, are_accepted, unasked}
 use Rattle.login_policy.specs.declared.client.Client.{Client}
 use Rattle.login_policy.specs.declared.client.Client.TheVariants.{At, LeftToCaller, Unknown}
 use Rattle.login_policy.specs.declared.grant.Grant.{Grant}
+use Rattle.sshkey_cert.specs.declared.certificate.refusal.CertificateRefusal.TheVariants.{Principal, Signature, Window}
+use Rattle.login_policy.specs.Refusals.{RefusesCertificate}
+use Rattle.login_policy.specs.declared.refusal.LoginRefusal.{LoginRefusal}
+use Rattle.login_policy.specs.declared.refusal.LoginRefusal.TheVariants.{Elsewhere, Invalid}
 
 -- ---- a login that is let in
 
@@ -153,3 +156,67 @@ abbrev pub Unbound : Type 0
 Unbound = ((g : Grant) → g.force_command ≡ None → g.verify_required ≡ false → IsUnbound g)
     × ((g : Grant) → ¬ (g.force_command ≡ None) → ¬ IsUnbound g)
     × ((g : Grant) → g.verify_required ≡ true → ¬ IsUnbound g)
+
+-- Worked examples: who may sign for which key, on both sides of each edge.
+
+abbrev ed25519 : Key
+ed25519 = Ed25519 (replicate 32 1)
+
+abbrev dsa : Key
+dsa = Dsa (record { p = 7 ∷ []; q = 3 ∷ []; g = 2 ∷ []; y = 4 ∷ [] })
+
+abbrev rsa : List ℕ → Key
+rsa n = Rsa (record { e = 3 ∷ []; n = n })
+
+-- the powers of two of that many bits, as RFC 4251 writes them
+abbrev of_1023_bits : List ℕ
+of_1023_bits = 0x40 ∷ replicate 127 0
+
+abbrev of_1024_bits : List ℕ
+of_1024_bits = 0 ∷ 0x80 ∷ replicate 127 0
+
+-- An authority has any kind but DSA and private use, and 1,024 bits of RSA, whatever its users' have.
+abbrev pub Authorities : Type 0
+Authorities = (are_accepted 0 ed25519 ed25519 ≡ true)
+    × (are_accepted 0 ed25519 dsa ≡ false)
+    × (are_accepted 0 dsa ed25519 ≡ false)
+    × (are_accepted 0 ed25519 (Opaque (codes "key@example.org") []) ≡ false)
+    × (are_accepted 0 ed25519 (Ecdsa Nistp256 (4 ∷ replicate 64 1)) ≡ true)
+    × (are_accepted 0 ed25519 (Ecdsa Nistp256 (2 ∷ replicate 64 1)) ≡ false)
+    × (are_accepted 0 ed25519 (SkEd25519 (record { key = replicate 32 1; application = codes "ssh:" })) ≡ true)
+    × (are_accepted 0 ed25519 (SkEd25519 (record { key = replicate 32 1; application = codes "ssh:\0" })) ≡ false)
+    × (are_accepted 0 ed25519 (rsa of_1023_bits) ≡ false)
+    × (are_accepted 1025 ed25519 (rsa of_1024_bits) ≡ true)
+    × (are_accepted 1024 (rsa of_1024_bits) (rsa of_1024_bits) ≡ true)
+    × (are_accepted 1025 (rsa of_1024_bits) (rsa of_1024_bits) ≡ false)
+
+-- Worked examples of what is pending, and of what is refused first, on both sides of each edge: a login
+-- that is let in, and the same with one thing changed. The verifier says no (sshkey.c and
+-- auth2-pubkey.c of OpenSSH).
+
+abbrev pub forged : Login
+forged = record login { accepts = λ q. false }
+
+abbrev pub Pends : Login → SignedFields → Type 0
+Pends l f = LetsIn (unasked l) (of_fields f)
+
+-- What a verifier would say is not asked of what is pending, and all else is.
+abbrev pub Pendings : Type 0
+Pendings = Pends login fields
+    × Pends forged fields
+    × ¬ IsLetIn forged fields
+    × ¬ Pends (record forged { time = 200 }) fields
+    × ¬ Pends (record forged { authorities = [] }) fields
+    × ¬ Pends (record forged { revokes = λ key identity. true }) fields
+    × ¬ Pends forged listed
+
+abbrev pub IsRefusedFor : LoginRefusal → Login → SignedFields → Type 0
+IsRefusedFor r l f = RefusesCertificate l (of_fields f) r
+
+-- The signature is said last.
+abbrev pub Order : Type 0
+Order = IsRefusedFor (Invalid Signature) forged fields
+    × IsRefusedFor (Invalid Window) (record forged { time = 99 }) fields
+    × IsRefusedFor (Invalid Window) (record forged { time = 200 }) fields
+    × IsRefusedFor (Invalid Principal) (record forged { user = codes "carol" }) fields
+    × IsRefusedFor Elsewhere forged listed

@@ -1,8 +1,8 @@
--- Who may log in with a certificate, and what the login is bound to (PROTOCOL.certkeys;
--- sshd_config(5), TrustedUserCAKeys and RevokedKeys).
-use Rattle.std.specs.Prelude.{◌≡◌, ◌≢◌, ℕ, List, Bool, not, ◌&&◌, All, Contains, IsTrue, Result, Ok, Err, Option, Some, None, false, is_some, option_map, string_bytes}
+-- Whom a certificate is for.
+use Rattle.std.specs.Prelude.{◌≢◌, ℕ, List, [], ◌≡◌, Bool, not, ◌&&◌, All, Contains, IsTrue, Result, Ok, Err, Option, Some, None, false, is_some, option_map, string_bytes, ◌↔◌, true}
+use Rattle.openssh_limits.specs.Limits.{AreReadPrincipals, openssh_accepts_key}
 use Rattle.sshkey_matching.specs.SourceAddresses.{ComesFrom, IsNetworks}
-use Rattle.sshkey_cert.specs.Validity.{fingerprints_of}
+use Rattle.sshkey_cert.specs.Validity.{fingerprints_of, certificate_question}
 use Rattle.sshkey_keys.specs.Fingerprints.{IsFingerprint}
 use Rattle.sshkey_krl.specs.Revocation as krl
 use Rattle.sshkey_krl.specs.Revocations.{is_certificate_revoked}
@@ -14,18 +14,31 @@ use Rattle.sshkey_model.specs.Names.{Sha256}
 use Rattle.sshkey_model.specs.OptionMaps.{value_of}
 use Rattle.sshkey_model.specs.Parts.{flat}
 use Rattle.sshkey_model.specs.Validity.{IsValid}
-use Rattle.sshkey_model.specs.Verification.{Question}
-use Rattle.sshkey_cert_values.specs.OptionMaps.{options_of}
-use Rattle.openssh_limits.specs.Keys.{openssh_accepts_key}
+use Rattle.sshkey_model.specs.Verification.{Question, is_yes}
+use Rattle.sshkey_cert_values.specs.CertificateFields.{options_of}
 use Rattle.login_policy.specs.KnownOptions.{IsKnownOption, IsPlainExtension}
 use Rattle.login_policy.specs.KnownOptions as options
-use Rattle.login_policy.specs.Principals.{AreForUser}
 use Rattle.login_policy.specs.declared.client.Client.{Client}
 use Rattle.login_policy.specs.declared.client.Client.TheVariants.{At, LeftToCaller, Unknown}
 use Rattle.login_policy.specs.declared.grant.Grant.{Grant}
 use Rattle.login_policy.specs.declared.login.Login as code
 use Rattle.login_policy.specs.declared.refusal.LoginRefusal.{LoginRefusal}
 use Rattle.login_policy.specs.declared.refusal.LoginRefusal.TheVariants.{Memory}
+use Rattle.sshkey_cert.specs.Certificates.{certificate_of}
+use Rattle.sshkey_cert.specs.declared.certificate.refusal.CertificateRefusal.TheVariants.{Signature}
+use Rattle.sshkey_model.specs.Refusals.{is_signed}
+use Rattle.login_policy.specs.declared.pending_login.Pending.{Pending}
+use Rattle.login_policy.specs.declared.refusal.LoginRefusal.TheVariants as refusal
+
+-- One name or more, each of which sshd(8) reads, and a user whose name is not empty: a certificate
+-- may list an empty name.
+pub record AreForUser (user : List ℕ) (names : List (List ℕ)) : Type 0 where
+  pub named : user ≢ []
+  pub some : names ≢ []
+  pub read : AreReadPrincipals names
+
+-- Who may log in with a certificate, and what the login is bound to (PROTOCOL.certkeys;
+-- sshd_config(5), TrustedUserCAKeys and RevokedKeys).
 
 -- A login that is asked for, and what decides it: whom the verifier accepts, what is revoked, which
 -- authorities are trusted, and where the client is. The blob is that of its certificate. An RSA key
@@ -103,3 +116,41 @@ pub record IsLogin (login : Login) : Type 0 where
 abbrev pub GrantsExactly : Login → Result Grant LoginRefusal → Type 0
 GrantsExactly login (Ok g) = (is : IsLogin login) × IsGrantOf is.certificate g
 GrantsExactly login (Err r) = r ≢ Memory → IsLogin login → ⊥
+
+-- A login of which all is right but the authority's signature, and what the answer to its question
+-- decides.
+
+-- the same login, whose verifier says yes to each question
+abbrev pub unasked : Login → Login
+unasked login = record login { accepts = λ _. true }
+
+-- All is right but the signature: who says yes to each question lets it in.
+abbrev pub IsPending : Login → Type 0
+IsPending login = IsLogin (unasked login)
+
+-- what it holds
+abbrev pub certificate_in : Pending → Certificate
+certificate_in p = certificate_of p.certificate
+
+abbrev pub grant_in : Pending → Grant
+grant_in p = p.grant
+
+-- Out of memory aside, Ok exactly if it is, and then with that certificate and its grant.
+abbrev pub PendsExactly : Login → Result Pending LoginRefusal → Type 0
+PendsExactly login (Ok p) = (is : IsPending login) × (is.certificate ≡ certificate_in p) × IsGrantOf is.certificate (grant_in p)
+PendsExactly login (Err r) = r ≢ refusal.Memory → IsPending login → ⊥
+
+-- With yes what was pending is granted, and with no nothing is.
+abbrev pub Decides : Pending → Bool → Result Grant LoginRefusal → Type 0
+Decides p true result = result ≡ Ok (grant_in p)
+Decides p false result = result ≡ Err (refusal.Invalid Signature)
+
+-- Out of memory aside, that verifier's answer decides.
+abbrev pub DecidesBy : (Question → Bool) → Pending → Result Grant LoginRefusal → Type 0
+DecidesBy accepts p (Ok g) = (g ≡ grant_in p) × (is_signed accepts (certificate_in p) ≡ true)
+DecidesBy accepts p (Err r) = r ≢ refusal.Memory → (r ≡ refusal.Invalid Signature) × (is_signed accepts (certificate_in p) ≡ false)
+
+-- Whatever the verifier, it lets in exactly where all is right but the signature, and it says yes to
+-- the one question of the certificate.
+abbrev pub AnswersDecide : Type 0
+AnswersDecide = (login : Login) → IsLogin login ↔ ((is : IsPending login) × (is_yes login.accepts (certificate_question is.certificate) ≡ true))

@@ -3,7 +3,7 @@ use Rattle.std.specs.Prelude.{◌≡◌, ◌≢◌, ◌⊎◌, ℕ, List, All, O
 use Rattle.sshkey_cert.specs.Validity.{refusal_of}
 use Rattle.sshkey_cert.specs.declared.certificate.refusal.CertificateRefusal.{CertificateRefusal}
 use Rattle.sshkey_cert.specs.declared.certificate.refusal.CertificateRefusal.TheVariants.{Authority, Signature}
-use Rattle.sshkey_cert.specs.Faults.{IsFaultOf}
+use Rattle.sshkey_cert.specs.Certificates.{IsFaultOf}
 use Rattle.sshkey_keys.specs.Fingerprints.{IsShort}
 use Rattle.sshkey_krl.specs.Revocations.{is_certificate_revoked}
 use Rattle.sshkey_model.specs.Certificates.{Certificate, User, normal_certificate, certificate_format, SpellsCertificate}
@@ -19,8 +19,7 @@ use Rattle.sshkey_base.specs.declared.error.Error.TheVariants as error
 use Rattle.sshkey_base.specs.declared.certificate.field.Field.{Field}
 use Rattle.sshkey_base.specs.declared.certificate.field.Field.TheVariants as field
 use Rattle.login_policy.specs.KnownOptions.{IsKnownOption, IsPlainExtension, source_address}
-use Rattle.login_policy.specs.Logins.{HasRightFields, IsAllowedFrom, Login, are_accepted}
-use Rattle.login_policy.specs.Principals.{AreForUser}
+use Rattle.login_policy.specs.Logins.{HasRightFields, IsAllowedFrom, Login, are_accepted, AreForUser}
 use Rattle.login_policy.specs.declared.refusal.LoginRefusal.{LoginRefusal}
 use Rattle.login_policy.specs.declared.refusal.LoginRefusal.TheVariants as refusal
 

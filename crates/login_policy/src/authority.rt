@@ -1,7 +1,7 @@
 //! Whether a certificate is by an authority that is trusted, nobody has revoked it, and it counts now.
 
 ghost use Rattle.std.specs.Prelude.{◌≡◌, ◌≢◌, None, false, true, IfErr, IfOk, OnOk, option_map};
-ghost use Rattle.sshkey_cert.specs.CertificateValues.{certificate_of};
+ghost use Rattle.sshkey_cert.specs.Certificates.{certificate_of};
 ghost use Rattle.sshkey_cert.specs.Validity.{fingerprints_of, refusal_of};
 ghost use Rattle.sshkey_keys.specs.Fingerprints.{IsFingerprint};
 ghost use Rattle.sshkey_krl.specs.Revocations.{is_certificate_revoked};

@@ -1,8 +1,6 @@
 //! Worked examples of the definitions, on both sides of each edge.
 
-ghost use Rattle.login_policy.specs.Examples.{Clients, Extensions, Fields, Granted, Options, Trust, Unbound, Users};
-ghost use Rattle.login_policy.specs.KeyExamples.{Authorities};
-ghost use Rattle.login_policy.specs.PendingExamples.{Order, Pendings};
+ghost use Rattle.login_policy.specs.Examples.{Clients, Extensions, Fields, Granted, Options, Trust, Unbound, Users, Authorities, Order, Pendings};
 
 /// Keys that sign for others.
 pub fn authorities()

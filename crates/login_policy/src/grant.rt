@@ -1,7 +1,7 @@
 //! What a login is bound to, and what it may do.
 
 ghost use Rattle.std.specs.Prelude.{◌≡◌, ◌↔◌, IfErr, IfOk, IsTrue, option_map, string_bytes};
-ghost use Rattle.sshkey_cert.specs.CertificateValues.{certificate_of};
+ghost use Rattle.sshkey_cert.specs.Certificates.{certificate_of};
 ghost use Rattle.sshkey_keys.specs.Fingerprints.{IsFingerprint};
 ghost use Rattle.sshkey_model.specs.Names.{Sha256};
 ghost use Rattle.sshkey_base.specs.declared.error.Error.TheVariants.{Memory};

@@ -1,7 +1,7 @@
 //! The keys of a certificate: the one that it certifies, and the one that signed.
 
 ghost use Rattle.std.specs.Prelude.{◌≡◌, true};
-ghost use Rattle.sshkey_cert.specs.CertificateValues.{certificate_of};
+ghost use Rattle.sshkey_cert.specs.Certificates.{certificate_of};
 ghost use Rattle.sshkey_model.specs.Refusals.{is_signed};
 ghost use Rattle.login_policy.specs.Logins.{are_accepted};
 

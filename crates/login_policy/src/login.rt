@@ -1,12 +1,11 @@
 //! Who may log in.
 
 ghost use Rattle.std.specs.Prelude.{◌≡◌, ◌≢◌, true, IfErr, OnOk};
-ghost use Rattle.sshkey_cert.specs.CertificateValues.{certificate_of};
+ghost use Rattle.sshkey_cert.specs.Certificates.{certificate_of};
 ghost use Rattle.sshkey_cert.specs.Validity.{fingerprints_of};
 ghost use Rattle.sshkey_model.specs.Certificates.{IsCertificate, SpellsCertificate};
 ghost use Rattle.openssh_limits.specs.Padding.{padding};
-ghost use Rattle.login_policy.specs.Logins.{GrantsExactly, HasRightFields, login_of};
-ghost use Rattle.login_policy.specs.Pendings.{PendsExactly};
+ghost use Rattle.login_policy.specs.Logins.{GrantsExactly, HasRightFields, login_of, PendsExactly};
 ghost use Rattle.login_policy.specs.Refusals.{HasWrongField, NeedsJudging, NeedsMemory, RefusesLogin, invalid};
 ghost use Rattle.login_policy.specs.declared.refusal.LoginRefusal.TheVariants.{Memory};
 

@@ -3,7 +3,7 @@
 ghost use Rattle.std.specs.Prelude.{◌≡◌, ◌↔◌, IsTrue, All, bytes_eq, map};
 ghost use Rattle.std.specs.List.{list_any};
 ghost use Rattle.sshkey_model.specs.OptionMaps.{value_of};
-ghost use Rattle.sshkey_cert_values.specs.OptionMaps.{options_of};
+ghost use Rattle.sshkey_cert_values.specs.CertificateFields.{options_of};
 ghost use Rattle.login_policy.specs.KnownOptions.{IsArgument, IsEmptyIfFlag, IsKnownOption, IsPlainExtension, flags, source_address};
 ghost use Rattle.login_policy.specs.Logins.{IsAllowedFrom};
 

@@ -2,10 +2,10 @@
 
 ghost use Rattle.std.specs.Prelude.{◌≡◌, IfErr, IfOk};
 ghost use Rattle.sshkey_base.specs.Causes.{NoMemory, cause};
-ghost use Rattle.sshkey_cert.specs.Questions.{certificate_question};
+ghost use Rattle.sshkey_cert.specs.Validity.{certificate_question};
 ghost use Rattle.sshkey_keys.specs.Questions.{asks};
 ghost use Rattle.openssh_limits.specs.Padding.{padding};
-ghost use Rattle.login_policy.specs.Pendings.{Decides, DecidesBy, certificate_in};
+ghost use Rattle.login_policy.specs.Logins.{Decides, DecidesBy, certificate_in};
 
 use crate::grant::Grant;
 use crate::refusal::LoginRefusal;

@@ -1,7 +1,7 @@
 //! Whom a certificate is for.
 
 ghost use Rattle.std.specs.Prelude.{◌↔◌, IsTrue, map, string_bytes};
-ghost use Rattle.login_policy.specs.Principals.{AreForUser};
+ghost use Rattle.login_policy.specs.Logins.{AreForUser};
 
 use openssh_limits::openssh_reads_principals;
 

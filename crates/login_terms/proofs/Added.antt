@@ -1,7 +1,7 @@
 -- What an option adds whose value is read as one.
 use Rattle.std.proofs.Common.{◌≡◌, ◌∙◌, ◌<◌, ◌≤◌, ℕ, List, [], ◌∷◌, ◌++◌, length, inl, inr, ap, subst, sym, arith}
 use Rattle.std.specs.List.{Any}
-use Rattle.login_terms.specs.Terms.{AddsVariable, Terms}
+use Rattle.login_terms.specs.Options.{AddsVariable, Terms}
 use Rattle.login_terms.specs.Values.{HostAndPort, IsVariable}
 
 module _ {N : Type 0} (Holds : N → Type 0) (May : Type 0) (add : N → Terms) where

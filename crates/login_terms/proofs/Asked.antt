@@ -9,7 +9,7 @@ use Rattle.std.proofs.lemmas.Bool.Decides.{Decides-and, Decides-eqb, Decides-lik
 use Rattle.std.proofs.lemmas.Slice.Eq.{bytes_eq-Decides}
 use Rattle.sshkey_matching.proofs.PatternTests.{decides_any, decides_match, matches}
 use Rattle.login_terms.specs.Questions.{IsNamed, IsPortOf, Listens, MayListen, MayOpen, Opens}
-use Rattle.login_terms.specs.Terms.{Terms}
+use Rattle.login_terms.specs.Options.{Terms}
 use Rattle.login_terms.specs.Values.{HostAndPort}
 
 -- ---- one that is named

@@ -2,11 +2,11 @@
 use Rattle.std.proofs.Common.{◌≡◌, ◌≢◌, ◌<◌, ℕ, List, ◌∷◌, length, Option, Result, Ok, Err, IfOk, inl, inr, subst}
 use Rattle.std.specs.Prelude.{codes}
 use Rattle.sshkey_model.specs.Lines.{IsWithout}
-use Rattle.sshkey_entries.specs.Readings.{IsTheOne, Tells}
+use Rattle.sshkey_entries.specs.Answers.{IsTheOne, Tells}
 use Rattle.login_terms.specs.Values.{HostAndPort, IsHostAndPort, IsPermitListen, IsPermitOpen, IsPlainHost, MayBeListen, MayBePermit, MayBePort, SplitsHost, colon, opening_bracket, parts_of, permit_of, slash}
 use Rattle.login_terms.specs.declared.permits.Permit.{Permit}
 use Rattle.sshkey_entries.specs.declared.reading.Reading.{Reading}
-use Rattle.sshkey_entries.proofs.Told.{one_as, told_as}
+use Rattle.sshkey_entries.proofs.OptionItems.{one_as, told_as}
 use denote.Ref.{Bor}
 
 abbrev pub Parts : Type 0

@@ -1,8 +1,6 @@
 mod Added
-mod Named
+mod ExampleLemmas
 mod Hosts
-mod OneHost
-mod VariableNames
 mod Variables
 mod SmallLetters
 mod Asked

@@ -1,10 +1,12 @@
 -- Worked examples, on both sides of each edge: what OpenSSH's auth-options.c and misc.c read.
-use Rattle.std.specs.Prelude.{◌≡◌, ℕ, List, [], ◌∷◌, ◌++◌, length, true, false, Option, Some, None, codes}
+use Rattle.std.specs.Prelude.{◌≡◌, ℕ, List, [], ◌∷◌, ◌++◌, length, true, false, Option, Some, None, codes, replicate}
 use Rattle.std.specs.List.{Any}
-use Rattle.login_terms.specs.Terms.{Adds, AddsValue, MayBe, Terms, earlier, no_terms}
-use Rattle.login_terms.specs.Values.{IsPermitListen, IsPermitOpen, IsPort, IsTunnel, IsVariable, MayBePermit, MayBePort, MayBeTime, MayBeTunnel, is_variable_character}
+use Rattle.login_terms.specs.Options.{Adds, AddsValue, MayBe, Terms, earlier, no_terms, AddsWord, MayBeValue, MayBeWord}
+use Rattle.login_terms.specs.Values.{IsPermitListen, IsPermitOpen, IsPort, IsTunnel, IsVariable, MayBePermit, MayBePort, MayBeTime, MayBeTunnel, is_variable_character, IsInBrackets, IsNoNumber, IsPlainHost, IsVariableName, SplitsHost, any_tunnel, closing_bracket, colon, equals_sign, opening_bracket, slash, HostAndPort}
 use Rattle.login_terms.specs.declared.permissions.Permissions.{Permissions}
 use Rattle.login_terms.specs.declared.words.Word.TheVariants as word
+use Rattle.login_terms.specs.declared.words.Flag.TheVariants as flag
+use Rattle.login_terms.specs.Questions.{MayListen, MayOpen, runs}
 
 -- An option says this of a line and nothing else; or sshd refuses a line with it.
 abbrev pub Says : List ℕ → Option (List ℕ) → Terms → Terms → Type 0
@@ -133,3 +135,93 @@ Devices = IsTunnel (codes "0") 0 × IsTunnel (codes "2147483645") 2147483645 × 
     × ¬ IsTunnel (codes "2147483646") 2147483646 × ¬ IsTunnel (codes "2147483647") 2147483647
     × MayBeTunnel [] × MayBeTunnel (codes "-1") × MayBeTunnel (codes "1:2") × ¬ MayBeTunnel (codes "any") × ¬ MayBeTunnel (codes "2147483646")
     × Adds (codes "tunnel") (Some (codes "1")) (record no_terms { tunnel = Some 0 }) (record no_terms { tunnel = Some 1 })
+
+-- Worked examples: how values of options are taken apart, on both sides of each edge (OpenSSH's misc.c,
+-- hpdelim2 and a2port; auth-options.c, handle_permit and the variables of sshauthopt_parse); and which
+-- options have a value.
+
+-- the characters as ASCII has them, and SSH_TUNID_ANY
+abbrev pub Marks : Type 0
+Marks = (codes ":/[]=" ≡ colon ∷ slash ∷ opening_bracket ∷ closing_bracket ∷ equals_sign ∷ []) × (any_tunnel ≡ 0x7fffffff)
+
+-- What strtonum(3) reads of digits alone, and what may be the name of a service or has a sign.
+abbrev pub NoNumbers : Type 0
+NoNumbers = IsNoNumber [] × IsNoNumber (codes "ssh") × IsNoNumber (codes "+80") × IsNoNumber (codes "8o") × IsNoNumber (codes "4294967296")
+    × ¬ IsNoNumber (codes "0") × ¬ IsNoNumber (codes "080") × ¬ IsNoNumber (codes "4294967295")
+
+-- A variable's name has a character, and ends at the first `=`.
+abbrev pub VariableNames : Type 0
+VariableNames = IsVariableName (codes "A") × IsVariableName (codes "_a1") × ¬ IsVariableName [] × ¬ IsVariableName (codes "A-B") × ¬ IsVariableName (codes "A ")
+    × IsVariable (codes "A=") (codes "A") × IsVariable (codes "A=b=c") (codes "A") × ¬ IsVariable (codes "A=b=c") (codes "A=b")
+    × ¬ IsVariable (codes "=b") [] × ¬ IsVariable (codes "A") (codes "A")
+
+-- A host without brackets ends at the first colon, and one in brackets at the first `]`, which a
+-- colon follows.
+abbrev pub HostEnds : Type 0
+HostEnds = IsPlainHost (codes "h:80") (codes "h") (codes "80") × IsPlainHost (codes "a:b:80") (codes "a") (codes "b:80") × IsPlainHost (codes ":80") [] (codes "80")
+    × ¬ IsPlainHost (codes "a:b:80") (codes "a:b") (codes "80") × ¬ IsPlainHost (codes "h/80") (codes "h") (codes "80")
+    × IsInBrackets (codes "::1]:80") (codes "::1") (codes "80") × IsInBrackets (codes "a]:b]:80") (codes "a") (codes "b]:80")
+    × ¬ IsInBrackets (codes "a]:b]:80") (codes "a]:b") (codes "80") × ¬ IsInBrackets (codes "::1]80") (codes "::1") (codes "80") × ¬ IsInBrackets (codes "::1:80") (codes "::1") (codes "80")
+
+-- `[` in front makes a host one in brackets, and it has 1,024 bytes with them at most (NI_MAXHOST).
+abbrev pub SplitHosts : Type 0
+SplitHosts = SplitsHost (codes "[::1]:80") (codes "::1", codes "80") × SplitsHost (codes "h:80") (codes "h", codes "80")
+    × ¬ SplitsHost (codes "[::1]:80") (codes "[", codes ":1]:80") × ¬ SplitsHost (codes "::1]:80") (codes "::1", codes "80") × ¬ SplitsHost (codes "[a:80") (codes "[a", codes "80")
+    × SplitsHost (replicate 1024 0x61 ++ codes ":80") (replicate 1024 0x61, codes "80") × ¬ SplitsHost (replicate 1025 0x61 ++ codes ":80") (replicate 1025 0x61, codes "80")
+    × SplitsHost (codes "[" ++ replicate 1022 0x61 ++ codes "]:80") (replicate 1022 0x61, codes "80") × ¬ SplitsHost (codes "[" ++ replicate 1023 0x61 ++ codes "]:80") (replicate 1023 0x61, codes "80")
+
+-- Times, hosts, ports and devices may be read by some sshd, and by no version anything else: neither a
+-- command, nor names, nor a variable without a `=`.
+abbrev pub MayBeValues : Type 0
+MayBeValues = MayBeValue word.ExpiryTime (codes "2030 1 1Z") × MayBeValue word.PermitOpen (codes "h/80") × MayBeValue word.PermitListen (codes "ssh") × MayBeValue word.Tunnel (codes "+1")
+    × ¬ MayBeValue word.ExpiryTime (codes "2030") × ¬ MayBeValue word.PermitListen (codes "0") × ¬ MayBeValue word.Tunnel (codes "any")
+    × ¬ MayBeValue word.Command (codes "ls") × ¬ MayBeValue word.Principals (codes "a") × ¬ MayBeValue word.From (codes "10.1") × ¬ MayBeValue word.Environment (codes "A")
+    × ¬ MayBeValue (word.Allow flag.Pty) [] × ¬ MayBeValue (word.Deny flag.Pty) [] × ¬ MayBeValue word.Restrict [] × ¬ MayBeValue word.CertAuthority []
+
+-- A flag has no value, and another option has one.
+abbrev pub WordValues : Type 0
+WordValues = AddsWord word.CertAuthority None no_terms (record no_terms { is_authority = true }) × AddsWord word.Command (Some (codes "ls")) no_terms (record no_terms { command = Some (codes "ls") })
+    × ((t : Terms) → AddsWord word.CertAuthority (Some []) no_terms t → ⊥) × ((t : Terms) → AddsWord word.Command None no_terms t → ⊥)
+    × MayBeWord word.Tunnel (Some (codes "+1")) × ¬ MayBeWord word.Tunnel None
+
+-- Worked examples, on both sides of each edge: what channels.c and session.c of OpenSSH answer.
+
+abbrev pub at : List ℕ → Option ℕ → HostAndPort
+at host port = record { host = host; port = port }
+
+abbrev pub opening : List ℕ → Option ℕ → Terms
+opening host port = record no_terms { permit_open = at host port ∷ [] }
+
+abbrev pub listening : List ℕ → Option ℕ → Terms
+listening host port = record no_terms { permit_listen = at host port ∷ [] }
+
+-- Without the option anything; with it what it names alone, each byte of a host; and nothing where
+-- forwarding is forbidden, whatever is named. Ports end at 65,535.
+abbrev pub Opened : Type 0
+Opened = MayOpen no_terms (codes "db") 22 × MayOpen no_terms [] 0 × MayOpen no_terms (codes "db") 65535 × ¬ MayOpen no_terms (codes "db") 65536
+    × ¬ MayOpen restricted (codes "db") 22 × ¬ MayOpen (record restricted { permit_open = at (codes "db") (Some 5432) ∷ [] }) (codes "db") 5432
+    × MayOpen (opening (codes "db") (Some 5432)) (codes "db") 5432 × ¬ MayOpen (opening (codes "db") (Some 5432)) (codes "db") 5433
+    × ¬ MayOpen (opening (codes "db") (Some 5432)) (codes "DB") 5432 × ¬ MayOpen (opening (codes "db") (Some 5432)) (codes "db.") 5432
+    × MayOpen (opening (codes "*") (Some 80)) (codes "::1") 80 × ¬ MayOpen (opening (codes "*") (Some 80)) (codes "::1") 81
+    × MayOpen (opening (codes "db") None) (codes "db") 22 × ¬ MayOpen (opening (codes "db") None) (codes "db") 65536
+    × ¬ MayOpen (opening (codes "d?") None) (codes "db") 22 × ¬ MayOpen (opening (codes "*b") None) (codes "db") 22
+    × MayOpen (record no_terms { permit_open = at (codes "a") (Some 1) ∷ at (codes "b") (Some 2) ∷ [] }) (codes "b") 2
+    × ¬ MayOpen (record no_terms { permit_open = at (codes "a") (Some 1) ∷ at (codes "b") (Some 2) ∷ [] }) (codes "a") 2
+    × MayOpen (listening (codes "a") (Some 1)) (codes "b") 2
+
+-- The same, where hosts are patterns, which are compared with small letters.
+abbrev pub Listened : Type 0
+Listened = MayListen no_terms (codes "localhost") 8080 × MayListen no_terms [] 0 × MayListen no_terms [] 65535 × ¬ MayListen no_terms [] 65536
+    × ¬ MayListen restricted [] 8080 × ¬ MayListen (record restricted { permit_listen = at (codes "*") None ∷ [] }) [] 8080
+    × MayListen (listening (codes "localhost") (Some 8080)) (codes "localhost") 8080 × MayListen (listening (codes "localhost") (Some 8080)) (codes "LocalHost") 8080
+    × ¬ MayListen (listening (codes "Localhost") (Some 8080)) (codes "Localhost") 8080 × ¬ MayListen (listening (codes "localhost") (Some 8080)) [] 8080
+    × ¬ MayListen (listening (codes "localhost") (Some 8080)) (codes "127.0.0.1") 8080 × ¬ MayListen (listening (codes "localhost") (Some 8080)) (codes "localhost") 8081
+    × MayListen (listening (codes "*") (Some 8080)) [] 8080 × MayListen (listening (codes "*.0.0.?") None) (codes "127.0.0.1") 0 × ¬ MayListen (listening (codes "*.0.0.?") None) (codes "::1") 0
+    × ¬ MayListen (listening (codes "*") (Some 8080)) [] 0 × MayListen (opening (codes "a") (Some 1)) (codes "b") 2
+
+-- A command that is empty is one, and whatever is asked for goes without it.
+abbrev pub Commands : Type 0
+Commands = (runs no_terms (Some (codes "ls")) ≡ Some (codes "ls")) × (runs no_terms None ≡ None)
+    × (runs (record no_terms { command = Some (codes "date") }) (Some (codes "ls")) ≡ Some (codes "date"))
+    × (runs (record no_terms { command = Some (codes "date") }) None ≡ Some (codes "date"))
+    × (runs (record no_terms { command = Some [] }) (Some (codes "ls")) ≡ Some []) × (runs (record no_terms { command = Some [] }) None ≡ Some [])

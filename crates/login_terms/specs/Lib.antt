@@ -1,8 +1,5 @@
-pub use Rattle.sshkey_entries.specs.Readings
+pub use Rattle.sshkey_entries.specs.Answers
 pub mod Values
-pub mod Words
-pub mod Terms
+pub mod Options
 pub mod Questions
 pub mod Examples
-pub mod ValueExamples
-pub mod QuestionExamples

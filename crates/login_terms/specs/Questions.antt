@@ -3,10 +3,9 @@
 use Rattle.std.specs.Prelude.{◌≡◌, ◌⊎◌, ◌<◌, ℕ, List, [], Option, Some, None, IsTrue, codes, map}
 use Rattle.std.specs.Char.{to_ascii_lowercase}
 use Rattle.std.specs.List.{Any}
-use Rattle.sshkey_matching.specs.LetterCases.{fold_of}
-use Rattle.sshkey_matching.specs.Patterns.{Matches}
+use Rattle.sshkey_matching.specs.Patterns.{fold_of, Matches}
 use Rattle.sshkey_matching.specs.declared.pattern.LetterCase.TheVariants.{Sensitive}
-use Rattle.login_terms.specs.Terms.{Terms}
+use Rattle.login_terms.specs.Options.{Terms}
 use Rattle.login_terms.specs.Values.{HostAndPort}
 
 -- ---- one host and port of the option, and those that the client asks for

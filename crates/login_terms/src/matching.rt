@@ -3,8 +3,7 @@
 ghost use Rattle.std.specs.Prelude.{◌↔◌, IsTrue, map};
 ghost use Rattle.std.specs.Char.{to_ascii_lowercase};
 ghost use Rattle.std.specs.List.{All};
-ghost use Rattle.sshkey_matching.specs.LetterCases.{fold_of};
-ghost use Rattle.sshkey_matching.specs.Patterns.{Matches};
+ghost use Rattle.sshkey_matching.specs.Patterns.{fold_of, Matches};
 ghost use Rattle.sshkey_matching.specs.declared.pattern.LetterCase.TheVariants.{Sensitive};
 ghost use Rattle.login_terms.specs.Questions.{IsPortOf, IsSmall, Listens, Opens};
 

@@ -2,9 +2,9 @@
 
 ghost use Rattle.std.specs.Prelude.{◌≡◌, ◌↔◌, false, true, IfOk, IsTrue, map, option_map, string_bytes};
 ghost use Rattle.std.specs.List.{Any};
-ghost use Rattle.sshkey_entries.specs.Readings.{Tells};
-ghost use Rattle.login_terms.specs.Terms as terms;
-ghost use Rattle.login_terms.specs.Terms.{AddsAlone, AddsValue, AddsWord, MayBeValue, MayBeWord, earlier, terms_of, with_flag};
+ghost use Rattle.sshkey_entries.specs.Answers.{Tells};
+ghost use Rattle.login_terms.specs.Options as terms;
+ghost use Rattle.login_terms.specs.Options.{AddsAlone, AddsValue, AddsWord, MayBeValue, MayBeWord, earlier, terms_of, with_flag};
 ghost use Rattle.login_terms.specs.Values.{IsVariable, IsVariableName};
 ghost use Rattle.login_terms.specs.declared.words.Word.TheVariants as word;
 

@@ -1,7 +1,7 @@
 //! What a login may do beside running its command.
 
 ghost use Rattle.std.specs.Prelude.{◌≡◌};
-ghost use Rattle.login_terms.specs.Terms.{all_permitted, none_permitted};
+ghost use Rattle.login_terms.specs.Options.{all_permitted, none_permitted};
 
 /// What a login may do beside running its command.
 #[derive(Debug, Clone, Copy)]

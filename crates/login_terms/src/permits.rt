@@ -1,7 +1,7 @@
 //! Where ports may be forwarded to, and where may be listened.
 
 ghost use Rattle.std.specs.Prelude.{◌+◌, ◌<◌, length, IfOk};
-ghost use Rattle.sshkey_entries.specs.Readings.{IsTheOne, Tells};
+ghost use Rattle.sshkey_entries.specs.Answers.{IsTheOne, Tells};
 ghost use Rattle.login_terms.specs.Values.{IsHostAndPort, IsInBrackets, IsPermitListen, IsPermitOpen, IsPlainHost, IsPort, MayBeListen, MayBePermit, MayBePort, SplitsHost, parts_of, permit_of};
 
 use crate::numbers::read_number;

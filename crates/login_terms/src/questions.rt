@@ -3,7 +3,7 @@
 ghost use Rattle.std.specs.Prelude.{◌≡◌, ◌↔◌, IsTrue, map, option_map};
 ghost use Rattle.std.specs.List.{Any};
 ghost use Rattle.login_terms.specs.Questions.{Listens, MayListen, MayOpen, Opens, runs};
-ghost use Rattle.login_terms.specs.Terms.{terms_of};
+ghost use Rattle.login_terms.specs.Options.{terms_of};
 ghost use Rattle.login_terms.specs.Values.{permit_of};
 
 use crate::matching::{listens, opens};

@@ -2,7 +2,7 @@
 
 ghost use Rattle.std.specs.Prelude.{◌≡◌, option_map, string_bytes};
 ghost use Rattle.login_terms.specs.Questions.{first_of};
-ghost use Rattle.login_terms.specs.Terms.{no_terms, terms_of};
+ghost use Rattle.login_terms.specs.Options.{no_terms, terms_of};
 
 use crate::permissions::Permissions;
 use crate::permits::Permit;

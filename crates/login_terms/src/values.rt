@@ -2,7 +2,7 @@
 
 ghost use Rattle.std.specs.Prelude.{◌≡◌, ◌↔◌, IsTrue};
 ghost use Rattle.std.specs.List.{list_all, list_any};
-ghost use Rattle.sshkey_entries.specs.Readings.{IsTheOne, Tells};
+ghost use Rattle.sshkey_entries.specs.Answers.{IsTheOne, Tells};
 ghost use Rattle.login_terms.specs.Values.{IsTunnel, IsVariable, IsVariableName, MayBeTime, MayBeTunnel, is_space, is_variable_character};
 ghost use Rattle.sshkey_matching.specs.Times.{IsTimeText};
 

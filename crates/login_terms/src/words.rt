@@ -1,7 +1,7 @@
 //! The names of options.
 
-ghost use Rattle.sshkey_entries.specs.Words.{FindsWord};
-ghost use Rattle.login_terms.specs.Words.{words};
+ghost use Rattle.sshkey_entries.specs.OptionItems.{FindsWord};
+ghost use Rattle.login_terms.specs.Options.{words};
 
 use sshkey_entries::find_word;
 

@@ -6,8 +6,7 @@ use Rattle.std.proofs.lemmas.List.{get_or_default, length-map}
 use Rattle.std.proofs.lemmas.List.Elements.{All-cons, All-head, All-map, All-nil, All-tail}
 use Rattle.std.specs.Prelude.{◌==◌, All, String, replicate, string_bytes}
 use Rattle.sshkey_model.specs.Lines.{IsWithout}
-use Rattle.openssh_limits.specs.Keys.{openssh_reads_text}
-use Rattle.openssh_limits.specs.Read.{AreReadPrincipals}
+use Rattle.openssh_limits.specs.Limits.{openssh_reads_text, AreReadPrincipals}
 
 -- ---- a text
 

@@ -2,7 +2,7 @@
 use Rattle.std.specs.Prelude.{◌≡◌, ℕ, List, [], ◌∷◌, true, false, None, Some, codes, replicate}
 use Rattle.sshkey_model.specs.Keys.{Key, Dsa, Ecdsa, Ed25519, Rsa, SkEcdsa, SkEd25519, Opaque}
 use Rattle.sshkey_model.specs.Names.{Nistp256}
-use Rattle.openssh_limits.specs.Keys.{bit_len, bits_in, is_read_number, openssh_accepts_key, openssh_reads_key, read_bits}
+use Rattle.openssh_limits.specs.Limits.{bit_len, bits_in, is_read_number, openssh_accepts_key, openssh_reads_key, read_bits}
 
 -- the powers of two of that many bits, as RFC 4251 writes them
 abbrev of_1023_bits : List ℕ

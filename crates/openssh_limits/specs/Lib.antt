@@ -1,5 +1,4 @@
-pub mod Read
-pub mod Keys
+pub mod Limits
 pub mod KeyExamples
 pub mod ReadExamples
 pub mod Padding

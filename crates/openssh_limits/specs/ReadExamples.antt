@@ -1,7 +1,7 @@
 -- Worked examples: principals of a certificate and applications of keys, on both sides of each edge.
 use Rattle.std.specs.Prelude.{List, ℕ, [], ◌∷◌, codes, replicate}
 use Rattle.sshkey_model.specs.Keys.{Key, Ed25519, SkEcdsa, SkEd25519}
-use Rattle.openssh_limits.specs.Read.{AreReadPrincipals, HasReadApplication}
+use Rattle.openssh_limits.specs.Limits.{AreReadPrincipals, HasReadApplication}
 
 -- 256 are read, and one more is not; nor is a name with a zero byte, wherever it stands.
 abbrev pub Principals : Type 0

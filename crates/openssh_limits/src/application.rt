@@ -2,7 +2,7 @@
 
 ghost use Rattle.std.specs.Prelude.{◌↔◌, IsTrue};
 ghost use Rattle.sshkey_keys.specs.Keys.{key_of};
-ghost use Rattle.openssh_limits.specs.Read.{HasReadApplication};
+ghost use Rattle.openssh_limits.specs.Limits.{HasReadApplication};
 
 use crate::texts::openssh_reads_text;
 use sshkey_keys::KeyData;

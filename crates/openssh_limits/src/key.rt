@@ -2,11 +2,9 @@
 
 ghost use Rattle.std.specs.Prelude.{◌≡◌};
 ghost use Rattle.sshkey_keys.specs.Keys.{key_of};
-ghost use Rattle.sshkey_keys_ref.specs.KeyDataRef.{key_bytes};
-ghost use Rattle.sshkey_keys_ref.specs.KeyRef.{Means};
-ghost use Rattle.sshkey_keys_ref.specs.Kinds.{dsa_of, rsa_of};
+ghost use Rattle.sshkey_keys_ref.specs.Keys.{key_bytes, Means, dsa_of, rsa_of};
 ghost use Rattle.sshkey_model.specs.Keys.{Key, SpellsKey};
-ghost use Rattle.openssh_limits.specs.Keys.{is_uncompressed, openssh_accepts_key, openssh_reads_key, required};
+ghost use Rattle.openssh_limits.specs.Limits.{is_uncompressed, openssh_accepts_key, openssh_reads_key, required};
 
 use crate::number::{is_read_number, read_bits};
 use crate::texts::has_no_zero;

@@ -1,7 +1,7 @@
 //! The numbers that OpenSSH reads.
 
 ghost use Rattle.std.specs.Prelude.{◌≡◌, Some};
-ghost use Rattle.openssh_limits.specs.Keys.{bits_in, is_read_number, read_bits};
+ghost use Rattle.openssh_limits.specs.Limits.{bits_in, is_read_number, read_bits};
 
 /// How many bytes a positive number has at most: 16,384 bits.
 const MOST_BYTES: usize = 2048;

@@ -2,8 +2,7 @@
 
 ghost use Rattle.std.specs.Prelude.{◌≡◌, ◌↔◌, IsTrue, All, map, string_bytes};
 ghost use Rattle.sshkey_model.specs.Lines.{IsWithout};
-ghost use Rattle.openssh_limits.specs.Keys.{openssh_reads_text};
-ghost use Rattle.openssh_limits.specs.Read.{AreReadPrincipals};
+ghost use Rattle.openssh_limits.specs.Limits.{openssh_reads_text, AreReadPrincipals};
 
 /// How many principals OpenSSH reads of a certificate.
 const MOST_PRINCIPALS: usize = 256;

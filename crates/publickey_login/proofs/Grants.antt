@@ -1,24 +1,165 @@
--- One grant is pending, with one question to each signer.
-use Rattle.std.proofs.Common.{◌≡◌, ◌∙◌, ◌||◌, [], Some, None, Option, ap, refl, subst, sym}
-use Rattle.login_terms.specs.Terms.{Terms, terms_of}
-use Rattle.sshkey_cert.proofs.CertificateReaders.{certificate_grammar}
-use Rattle.sshkey_cert.specs.Questions.{certificate_question}
-use Rattle.sshkey_keys.proofs.KeyReaders.{key_grammar}
+-- Where a login is refused, nothing is left to ask.
+use Rattle.std.proofs.Common.{◌≡◌, ◌≢◌, ℕ, List, [], Option, Some, None, inl, inr, refl, subst, ◌∙◌, sym, ◌||◌, ap}
+use Rattle.sshkey_keys.proofs.SignatureReaders.{signature_grammar}
 use Rattle.sshkey_model.proofs.Grammars.{one_front}
-use Rattle.sshkey_model.proofs.LinesApart.{blobs_apart}
-use Rattle.sshkey_model.specs.Certificates.{Certificate, SpellsCertificate}
+use Rattle.sshkey_model.specs.Keys as keys
 use Rattle.sshkey_model.specs.Keys.{Key, SpellsKey}
+use Rattle.sshkey_model.specs.Signatures.{Signature, SpellsSignature}
 use Rattle.sshkey_model.specs.Verification.{Question}
+use Rattle.sshkey_userauth.specs.Requests.{UserauthRequest}
 use Rattle.sshkey_userauth.specs.declared.judgement.Requirements.{Requirements}
 use Rattle.sshkey_userauth.specs.declared.judgement.name.KeyForm.{KeyForm}
+use Rattle.publickey_login.specs.Signatures.{IsWhyFlagsOf, IsWhyUnasked, IsWhyUnsigned, BySshd, ByTransport, HasFlags, IsAskedOfRequest, IsLeft, Offer, Request, Signed, request_for}
+use Rattle.publickey_login.specs.declared.refusal.PublickeyRefusal.{PublickeyRefusal}
+use Rattle.publickey_login.specs.declared.refusal.PublickeyRefusal.TheVariants as refusal
+use Rattle.sshkey_model.specs.Certificates.{Certificate, SpellsCertificate}
+use Rattle.user_keys.specs.Certificates.{name_listed, merged}
+use Rattle.publickey_login.proofs.Searches.{found_ends, one_in}
+use Rattle.publickey_login.specs.Sources.{Files, InCertificate, Login, Principals, AuthorityLine, Found, GoesOn, IsFoundIn, KeyLine, PrincipalLine, AuthorityGoesOn, IsCertificateSource, IsKeySource, IsOfAuthority, IsOfPrincipals, PrincipalsGoOn, authorities_of, user_of}
+use Rattle.publickey_login.specs.declared.grant.Source.{Source}
+use Rattle.publickey_login.specs.declared.grant.Source.TheVariants as source
+use Rattle.login_terms.specs.Options.{Terms, terms_of}
+use Rattle.sshkey_cert.proofs.Certificates.{certificate_grammar}
+use Rattle.sshkey_cert.specs.Validity.{certificate_question}
+use Rattle.sshkey_keys.proofs.KeyReaders.{key_grammar}
+use Rattle.sshkey_model.proofs.LinesApart.{blobs_apart}
 use Rattle.sshkey_userauth.specs.declared.judgement.name.KeyForm.TheVariants.{Certified, Plain}
-use Rattle.user_keys.specs.Certificates.{merged}
-use Rattle.publickey_login.proofs.OneSource.{one_key_source, one_source}
-use Rattle.publickey_login.proofs.Unsigned.{one_signature}
 use Rattle.publickey_login.specs.Grants.{Grants, GrantsCertificate, GrantsKey, required_of}
-use Rattle.publickey_login.specs.Logins.{Login}
-use Rattle.publickey_login.specs.Signatures.{BySshd, ByTransport, IsLeft, Offer, Request, Signed}
 use Rattle.publickey_login.specs.declared.grant.PublickeyGrant.{PublickeyGrant}
+
+-- the bytes spell one signature only
+pub one_signature : (g h : Signature) (bytes : List ℕ) → SpellsSignature g bytes → SpellsSignature h bytes → g ≡ h
+one_signature g h bytes made other = (one_front signature_grammar g h bytes bytes [] [] made other refl).0
+
+pub not_asked : (r : UserauthRequest) (required : Requirements) (key : Key) (form : KeyForm) (bytes : List ℕ) (asked : Option Question) (e : PublickeyRefusal) → e ≢ refusal.Memory → IsWhyUnasked r required form bytes e → IsAskedOfRequest r required key form bytes asked → ⊥
+not_asked r required key form bytes asked refusal.TooLong other why is = why is.sent
+not_asked r required key form bytes asked (refusal.NoSignature e) other why is = why.1 is.signature is.spelled
+not_asked r required key form bytes asked (refusal.Signature e) other why is =
+    let same = one_signature why.0 is.signature bytes why.1 is.spelled in
+    absurd (cc (same, why.2, is.judged))
+not_asked r required key form bytes asked refusal.Algorithm other why is =
+    let same = one_signature why.0 is.signature bytes why.1 is.spelled in
+    why.2.2 (cc (same, why.2.1, is.judged))
+not_asked r required key form bytes asked refusal.NoFlags other why is = absurd why
+not_asked r required key form bytes asked (refusal.NoKey e) other why is = absurd why
+not_asked r required key form bytes asked refusal.UnacceptedKey other why is = absurd why
+not_asked r required key form bytes asked refusal.Revoked other why is = absurd why
+not_asked r required key form bytes asked refusal.NotListed other why is = absurd why
+not_asked r required key form bytes asked (refusal.NotAllowed source line reason) other why is = absurd why
+not_asked r required key form bytes asked (refusal.Unclear source line) other why is = absurd why
+not_asked r required key form bytes asked (refusal.Unreadable source) other why is = absurd why
+not_asked r required key form bytes asked (refusal.Certificate e) other why is = absurd why
+not_asked r required key form bytes asked refusal.NotSigned other why is = absurd why
+not_asked r required key form bytes asked refusal.Memory other why is = absurd (other refl)
+
+flags_wrong : (key : Key) (required : Requirements) (flags : Option ℕ) (e : PublickeyRefusal) → IsWhyFlagsOf key required flags e → HasFlags key required flags → ⊥
+flags_wrong (keys.SkEcdsa k) required (Some flags) e why is = absurd (cc (why.1, is))
+flags_wrong (keys.SkEcdsa k) required None e why is = why.0 is
+flags_wrong (keys.SkEd25519 k) required (Some flags) e why is = absurd (cc (why.1, is))
+flags_wrong (keys.SkEd25519 k) required None e why is = why.0 is
+flags_wrong (keys.Dsa k) required flags e why is = absurd why
+flags_wrong (keys.Ecdsa c point) required flags e why is = absurd why
+flags_wrong (keys.Ed25519 k) required flags e why is = absurd why
+flags_wrong (keys.Rsa k) required flags e why is = absurd why
+flags_wrong (keys.Opaque name k) required flags e why is = absurd why
+
+pub not_left : (o : Offer) (s : Signed) (required : Requirements) (key : Key) (form : KeyForm) (e : PublickeyRefusal) → e ≢ refusal.Memory → IsWhyUnsigned o s required key form e → (left : Option (Option Question)) → IsLeft o s required key form left → ⊥
+not_left o (Request session_id host_key bytes) required key form e other why None is = absurd is
+not_left o (Request session_id host_key bytes) required key form e other (inl none) (Some asked) is = absurd (cc (none.0, is.1))
+not_left o (Request session_id host_key bytes) required key form e other (inr why) (Some asked) is =
+    let same : why.0 ≡ is.0 = cc (why.1, is.1) in
+    not_asked (request_for o is.0 session_id host_key) required key form bytes asked e other (subst (λ (name : List ℕ). IsWhyUnasked (request_for o name session_id host_key) required form bytes e) same why.2) is.2
+not_left o (ByTransport flags) required key form e other why (Some asked) is = absurd is
+not_left o (ByTransport flags) required key form e other (inl why) None is = why.0 is.0
+not_left o (ByTransport flags) required key form e other (inr why) None is = flags_wrong key required flags e why.1 is.1
+not_left o BySshd required key form e other why (Some asked) is = absurd is
+not_left o BySshd required key form e other why None is = why.0 is
+
+-- One source lets in.
+
+module _ (l : Login) where
+  -- ---- of a key
+
+  module _ (k : Key) where
+    pub one_key_source : (s t : Source) (f g : Found) → IsKeySource l k s f → IsKeySource l k t g → g.terms ≡ f.terms
+    one_key_source (source.AuthorizedKeys n) (source.AuthorizedKeys m) f g a b = (one_in (user_of l) (KeyLine k) l.trusted.authorized_keys n m f g a b).0
+    one_key_source (source.AuthorizedKeys n) (source.Command m) f g a b = absurd (found_ends (user_of l) (KeyLine k) l.trusted.authorized_keys n f a b.0)
+    one_key_source (source.AuthorizedKeys n) source.Authority f g a b = absurd b
+    one_key_source (source.AuthorizedKeys n) (source.Principals m) f g a b = absurd b
+    one_key_source (source.Command n) (source.AuthorizedKeys m) f g a b = absurd (found_ends (user_of l) (KeyLine k) l.trusted.authorized_keys m g b a.0)
+    one_key_source (source.Command n) (source.Command m) f g a b = (one_in (user_of l) (KeyLine k) l.trusted.command_keys n m f g a.1 b.1).0
+    one_key_source (source.Command n) source.Authority f g a b = absurd b
+    one_key_source (source.Command n) (source.Principals m) f g a b = absurd b
+    one_key_source source.Authority t f g a b = absurd a
+    one_key_source (source.Principals n) t f g a b = absurd a
+
+  -- ---- of a certificate
+
+  module _ (c : Certificate) where
+    one_listed : (f g : Found) → name_listed c.signed.valid_principals l.offer.user None ≡ Some f.name → name_listed c.signed.valid_principals l.offer.user None ≡ Some g.name → g.name ≡ f.name
+    one_listed f g a b =
+        let both : Some g.name ≡ Some f.name = sym b ∙ a in
+        cc
+
+    one_of_principals : (p : Principals) (s t : Source) (f g : Found) → IsOfPrincipals l c p s f → IsOfPrincipals l c p t g → (g.terms ≡ f.terms) × (g.name ≡ f.name)
+    one_of_principals InCertificate source.Authority source.Authority f g a b = (b.1 ∙ sym a.1, one_listed f g a.2 b.2)
+    one_of_principals InCertificate source.Authority (source.AuthorizedKeys m) f g a b = absurd b
+    one_of_principals InCertificate source.Authority (source.Principals m) f g a b = absurd b
+    one_of_principals InCertificate source.Authority (source.Command m) f g a b = absurd b
+    one_of_principals InCertificate (source.AuthorizedKeys n) t f g a b = absurd a
+    one_of_principals InCertificate (source.Principals n) t f g a b = absurd a
+    one_of_principals InCertificate (source.Command n) t f g a b = absurd a
+    one_of_principals (Files texts) (source.Principals n) (source.Principals m) f g a b = one_in (user_of l) (PrincipalLine c) texts n m f g a b
+    one_of_principals (Files texts) (source.Principals n) (source.AuthorizedKeys m) f g a b = absurd b
+    one_of_principals (Files texts) (source.Principals n) source.Authority f g a b = absurd b
+    one_of_principals (Files texts) (source.Principals n) (source.Command m) f g a b = absurd b
+    one_of_principals (Files texts) (source.AuthorizedKeys n) t f g a b = absurd a
+    one_of_principals (Files texts) source.Authority t f g a b = absurd a
+    one_of_principals (Files texts) (source.Command n) t f g a b = absurd a
+
+    principals_end : (p : Principals) (s : Source) (f : Found) → IsOfPrincipals l c p s f → PrincipalsGoOn l c p → ⊥
+    principals_end InCertificate source.Authority f a none =
+        let both : Some f.name ≡ None = sym a.2 ∙ none in
+        absurd (cc both)
+    principals_end InCertificate (source.AuthorizedKeys n) f a none = a
+    principals_end InCertificate (source.Principals n) f a none = a
+    principals_end InCertificate (source.Command n) f a none = a
+    principals_end (Files texts) (source.Principals n) f a goes = found_ends (user_of l) (PrincipalLine c) texts n f a goes
+    principals_end (Files texts) (source.AuthorizedKeys n) f a goes = a
+    principals_end (Files texts) source.Authority f a goes = a
+    principals_end (Files texts) (source.Command n) f a goes = a
+
+    pub authority_ends : (s : Source) (f : Found) → IsOfAuthority l c s f → AuthorityGoesOn l c → ⊥
+    authority_ends s f a (inl other) =
+        let yes = a.0 in
+        absurd cc
+    authority_ends s f a (inr goes) = principals_end l.trusted.principals s f a.1 goes.1
+
+    abbrev Same : Source → Source → Found → Found → Type 0
+    Same s t f g = (authorities_of l c s ≡ authorities_of l c t) × ((g.terms ≡ f.terms) × (g.name ≡ f.name))
+
+    files_end : (n : ℕ) (f : Found) → IsFoundIn (user_of l) (AuthorityLine c) l.trusted.authorized_keys n f → GoesOn (user_of l) (AuthorityLine c) l.trusted.authorized_keys → ⊥
+    files_end n f a goes = found_ends (user_of l) (AuthorityLine c) l.trusted.authorized_keys n f a goes
+
+    pub one_source : (s t : Source) (f g : Found) → IsCertificateSource l c s f → IsCertificateSource l c t g → Same s t f g
+    one_source (source.AuthorizedKeys n) (source.AuthorizedKeys m) f g a b = (refl, one_in (user_of l) (AuthorityLine c) l.trusted.authorized_keys n m f g a b)
+    one_source (source.AuthorizedKeys n) source.Authority f g a b = absurd (files_end n f a b.0)
+    one_source (source.AuthorizedKeys n) (source.Principals m) f g a b = absurd (files_end n f a b.0)
+    one_source (source.AuthorizedKeys n) (source.Command m) f g a b = absurd (files_end n f a b.0)
+    one_source source.Authority (source.AuthorizedKeys m) f g a b = absurd (files_end m g b a.0)
+    one_source source.Authority source.Authority f g a b = (refl, one_of_principals l.trusted.principals source.Authority source.Authority f g a.1.1 b.1.1)
+    one_source source.Authority (source.Principals m) f g a b = (refl, one_of_principals l.trusted.principals source.Authority (source.Principals m) f g a.1.1 b.1.1)
+    one_source source.Authority (source.Command m) f g a b = absurd (authority_ends source.Authority f a.1 b.1)
+    one_source (source.Principals n) (source.AuthorizedKeys m) f g a b = absurd (files_end m g b a.0)
+    one_source (source.Principals n) source.Authority f g a b = (refl, one_of_principals l.trusted.principals (source.Principals n) source.Authority f g a.1.1 b.1.1)
+    one_source (source.Principals n) (source.Principals m) f g a b = (refl, one_of_principals l.trusted.principals (source.Principals n) (source.Principals m) f g a.1.1 b.1.1)
+    one_source (source.Principals n) (source.Command m) f g a b = absurd (authority_ends (source.Principals n) f a.1 b.1)
+    one_source (source.Command n) (source.AuthorizedKeys m) f g a b = absurd (files_end m g b a.0)
+    one_source (source.Command n) source.Authority f g a b = absurd (authority_ends source.Authority g b.1 a.1)
+    one_source (source.Command n) (source.Principals m) f g a b = absurd (authority_ends (source.Principals m) g b.1 a.1)
+    one_source (source.Command n) (source.Command m) f g a b = (refl, one_in (user_of l) (AuthorityLine c) l.trusted.command_keys n m f g a.2 b.2)
+
+-- One grant is pending, with one question to each signer.
 
 -- ---- what is offered
 

@@ -1,16 +1,16 @@
 -- What is held of a login.
 use Rattle.std.proofs.Common.{◌≡◌, ◌≢◌, ◌∙◌, ℕ, List, [], ◌∷◌, IsTrue, Some, Result, Ok, Err, ap, inl, inr, option_map, refl, string_bytes, subst, sym, true}
 use Rattle.login_policy.specs.Logins.{IsGrantOf, LetsIn}
-use Rattle.login_policy.specs.Pendings as policies
+use Rattle.login_policy.specs.Logins as policies
 use Rattle.login_policy.specs.declared.grant.Grant as grants
 use Rattle.login_policy.specs.declared.pending_login.Pending as held
 use Rattle.login_policy.specs.declared.refusal.LoginRefusal.{LoginRefusal}
 use Rattle.login_policy.specs.declared.refusal.LoginRefusal.TheVariants as policy_refusal
-use Rattle.login_terms.specs.Terms.{terms_of}
-use Rattle.openssh_limits.specs.Keys.{openssh_accepts_key}
-use Rattle.sshkey_cert.proofs.CertificateReaders.{certificate_grammar}
+use Rattle.login_terms.specs.Options.{terms_of}
+use Rattle.openssh_limits.specs.Limits.{openssh_accepts_key}
+use Rattle.sshkey_cert.proofs.Certificates.{certificate_grammar}
 use Rattle.sshkey_cert.specs.Validity.{fingerprints_of}
-use Rattle.sshkey_cert_values.specs.OptionMaps.{options_of}
+use Rattle.sshkey_cert_values.specs.CertificateFields.{options_of}
 use Rattle.sshkey_fingerprints.specs.declared.fingerprint.Fingerprint.{Fingerprint}
 use Rattle.sshkey_keys.specs.Fingerprints.{IsFingerprint}
 use Rattle.sshkey_model.proofs.Grammars.{one_front}
@@ -23,10 +23,8 @@ use Rattle.user_keys.specs.Certificates.{merged_with}
 use Rattle.user_keys.specs.CertificateLogins.{signer}
 use Rattle.user_keys.specs.declared.grant.UserGrant.{UserGrant}
 use Rattle.publickey_login.specs.Grants.{GrantsCertificate, policy_login}
-use Rattle.publickey_login.specs.Logins.{Login}
+use Rattle.publickey_login.specs.Sources.{Login, Found, IsCertificateSource, authorities_of, counted_in}
 use Rattle.publickey_login.specs.Results.{CertificateHolds, HoldsExactly, IsPolicyRefusal}
-use Rattle.publickey_login.specs.Searches.{Found}
-use Rattle.publickey_login.specs.Sources.{IsCertificateSource, authorities_of, counted_in}
 use Rattle.publickey_login.specs.declared.grant.Source.{Source}
 use Rattle.publickey_login.specs.declared.grant.Source.TheVariants as source
 use Rattle.publickey_login.specs.declared.held.Held.{Held}

@@ -1,10 +1,7 @@
-mod Unsigned
-mod Searches
-mod OneSource
 mod Grants
+mod Searches
 mod Whys
-mod Answered
+mod Pendings
 mod Origins
 mod Helds
-mod Pendings
 mod RefusalExamples

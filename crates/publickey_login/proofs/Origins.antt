@@ -6,11 +6,9 @@ use Rattle.sshkey_model.specs.Keys.{Key}
 use Rattle.sshkey_model.specs.Refusals.{has_trusted_authority}
 use Rattle.user_keys.specs.UserLogins.{UserLogin}
 use Rattle.user_keys.specs.declared.login.UserLogin as code
-use Rattle.publickey_login.specs.Logins as logins
-use Rattle.publickey_login.specs.Logins.{Files, InCertificate, Login, Principals, Text}
+use Rattle.publickey_login.specs.Sources as logins
+use Rattle.publickey_login.specs.Sources.{Files, InCertificate, Login, Principals, Text, AuthorityLine, Found, KeyLine, PrincipalLine, Sought, FilesGoOn, IsCertificateSource, IsKeySource, IsOfPrincipals, PrincipalsGoOn, user_of}
 use Rattle.publickey_login.specs.Results.{AsksOf, OriginatesBy, SearchesIn, asked_of}
-use Rattle.publickey_login.specs.Searches.{AuthorityLine, Found, KeyLine, PrincipalLine, Sought}
-use Rattle.publickey_login.specs.Sources.{FilesGoOn, IsCertificateSource, IsKeySource, IsOfPrincipals, PrincipalsGoOn, user_of}
 use Rattle.publickey_login.specs.Stops.{IsWhyNoKeySource, IsWhyNoSource, PrincipalsRefuseFirst, refusal_for}
 use Rattle.publickey_login.specs.Values.{found_of, trusted_of}
 use Rattle.publickey_login.specs.declared.grant.Source.{Source}

@@ -10,9 +10,8 @@ use Rattle.user_keys.proofs.FirstLines.{some_first}
 use Rattle.user_keys.specs.UserLogins.{Ends, IsListedBy, OfKey, UserLogin}
 use Rattle.user_keys.specs.declared.refusal.Reason.{Reason}
 use Rattle.user_keys.specs.declared.refusal.Reason.TheVariants.{Expired}
-use Rattle.publickey_login.specs.Logins.{Login, Read}
+use Rattle.publickey_login.specs.Sources.{Login, Read, IsOfFirst, KeyLine, ArePassed, Sought, in_text}
 use Rattle.publickey_login.specs.RefusalExamples.{Refuse}
-use Rattle.publickey_login.specs.Searches.{IsOfFirst, KeyLine, ArePassed, Sought, in_text}
 use Rattle.publickey_login.specs.Stops.{AuthorityRefusesFirst, HasNone, IsWhy, RefusesFirst, RefusesWith, refusal_for}
 use Rattle.publickey_login.specs.declared.grant.Source.TheVariants as source
 use Rattle.publickey_login.specs.declared.refusal.PublickeyRefusal.TheVariants as refusal

@@ -4,7 +4,7 @@ use Rattle.std.specs.Option.{option_or}
 use Rattle.std.proofs.lemmas.List.{drop_more}
 use Rattle.std.proofs.Math.ListN.{drop_of_length-le}
 use Rattle.std.specs.Str.Lines.{lines}
-use Rattle.login_terms.specs.Terms.{Terms}
+use Rattle.login_terms.specs.Options.{Terms}
 use Rattle.sshkey_model.specs.Certificates.{Certificate}
 use Rattle.sshkey_model.specs.Keys.{Key}
 use Rattle.user_keys.proofs.FirstLines.{none_lets, nothing_lets, one_terms, some_first}
@@ -12,16 +12,13 @@ use Rattle.user_keys.proofs.Principals.{not_allowed, one_name, refused_is_told, 
 use Rattle.user_keys.specs.Certificates.{name_for}
 use Rattle.user_keys.specs.Answers.{IsWhyNoLine}
 use Rattle.user_keys.specs.CertificateLogins.{FindsLine, IsLineFor}
-use Rattle.user_keys.specs.FirstLines.{EndsBy}
-use Rattle.user_keys.specs.PrincipalLogins.{IsPrincipalLine, IsWhyUndecided}
-use Rattle.user_keys.specs.Principals.{Decides, MayDecide, lines_at_feeds}
-use Rattle.user_keys.specs.UserLogins.{Ends, Lets, MayLet, OfCertificate, OfKey, UserLogin}
+use Rattle.user_keys.specs.UserLogins.{EndsBy, Ends, Lets, MayLet, OfCertificate, OfKey, UserLogin}
+use Rattle.user_keys.specs.Principals.{IsPrincipalLine, IsWhyUndecided, Decides, MayDecide, lines_at_feeds}
 use Rattle.user_keys.specs.declared.grant.NamedLine.{NamedLine}
 use Rattle.user_keys.specs.declared.refusal.Reason.{Reason}
 use Rattle.user_keys.specs.declared.refusal.UserRefusal.{UserRefusal}
 use Rattle.user_keys.specs.declared.refusal.UserRefusal.TheVariants as why
-use Rattle.publickey_login.specs.Logins.{Read, Text, Unreadable}
-use Rattle.publickey_login.specs.Searches.{ArePassed, AuthorityLine, Found, GoesOn, IsFoundBy, IsFoundIn, IsOfFirst, KeyLine, Passes, PrincipalLine, RefusesBy, Sought, in_principals, in_text}
+use Rattle.publickey_login.specs.Sources.{Read, Text, Unreadable, ArePassed, AuthorityLine, Found, GoesOn, IsFoundBy, IsFoundIn, IsOfFirst, KeyLine, Passes, PrincipalLine, RefusesBy, Sought, in_principals, in_text}
 use Rattle.publickey_login.specs.Results.{FindsText, decides_alone}
 use Rattle.publickey_login.specs.Stops.{HasNone, IsStopped, IsUnclearBy, IsUnread, RefusesFirst, RefusesWith, source_in}
 use Rattle.publickey_login.specs.Values.{text_of}

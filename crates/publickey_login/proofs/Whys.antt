@@ -4,7 +4,7 @@ use Rattle.login_policy.proofs.Logins as policies
 use Rattle.login_policy.specs.Logins as policy
 use Rattle.login_policy.specs.Refusals.{RefusesLogin}
 use Rattle.login_policy.specs.declared.refusal.LoginRefusal.{LoginRefusal}
-use Rattle.sshkey_cert.proofs.CertificateReaders.{certificate_grammar}
+use Rattle.sshkey_cert.proofs.Certificates.{certificate_grammar}
 use Rattle.sshkey_model.proofs.Grammars.{one_front}
 use Rattle.sshkey_model.proofs.LinesApart.{blobs_apart}
 use Rattle.sshkey_model.proofs.Refusals.{none_where_wanted}
@@ -14,13 +14,10 @@ use Rattle.sshkey_model.specs.Keys.{Key}
 use Rattle.sshkey_model.specs.Verification.{Question}
 use Rattle.sshkey_userauth.specs.declared.judgement.name.KeyForm.{KeyForm}
 use Rattle.sshkey_userauth.specs.declared.judgement.name.KeyForm.TheVariants.{Certified, Plain}
-use Rattle.publickey_login.proofs.Grants.{one_certificate, one_key}
+use Rattle.publickey_login.proofs.Grants.{one_certificate, one_key, authority_ends, one_source}
 use Rattle.publickey_login.proofs.Searches.{found_ends, found_stops, goes_stops}
-use Rattle.publickey_login.proofs.OneSource.{authority_ends, one_source}
 use Rattle.publickey_login.specs.Grants.{Grants, GrantsCertificate, GrantsKey, policy_login}
-use Rattle.publickey_login.specs.Logins.{Files, InCertificate, Login, Principals, Text}
-use Rattle.publickey_login.specs.Searches.{AuthorityLine, Found, KeyLine, PrincipalLine}
-use Rattle.publickey_login.specs.Sources.{AuthorityGoesOn, IsCertificateSource, IsKeySource, IsOfAuthority, IsOfPrincipals, PrincipalsGoOn, authorities_of, user_of}
+use Rattle.publickey_login.specs.Sources.{Files, InCertificate, Login, Principals, Text, AuthorityLine, Found, KeyLine, PrincipalLine, AuthorityGoesOn, IsCertificateSource, IsKeySource, IsOfAuthority, IsOfPrincipals, PrincipalsGoOn, authorities_of, user_of}
 use Rattle.publickey_login.specs.Stops.{IsRefusedByPolicy, IsStopped, IsWhyNoAuthority, IsWhyNoCertificate, IsWhyNoKey, IsWhyNoKeySource, IsWhyNoSource, IsWhyNothing}
 use Rattle.publickey_login.specs.declared.grant.PublickeyGrant.{PublickeyGrant}
 use Rattle.publickey_login.specs.declared.grant.Source.{Source}

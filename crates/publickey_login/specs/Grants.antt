@@ -1,9 +1,9 @@
 -- Who logs in by public key, and what the login is bound to (RFC 4252, section 7; sshd_config(5)).
 use Rattle.std.specs.Prelude.{◌≡◌, ◌||◌, ℕ, List, Bool, true, false, IsTrue, Option, Some, None}
 use Rattle.login_policy.specs.Logins as policy
-use Rattle.login_terms.specs.Terms.{terms_of}
-use Rattle.openssh_limits.specs.Keys.{openssh_accepts_key}
-use Rattle.sshkey_cert.specs.Questions.{certificate_question}
+use Rattle.login_terms.specs.Options.{terms_of}
+use Rattle.openssh_limits.specs.Limits.{openssh_accepts_key}
+use Rattle.sshkey_cert.specs.Validity.{certificate_question}
 use Rattle.sshkey_keys.specs.Fingerprints.{IsFingerprint}
 use Rattle.sshkey_krl.specs.Revocations.{is_key_revoked}
 use Rattle.sshkey_model.specs.Certificates.{Certificate, SpellsCertificate}
@@ -15,10 +15,8 @@ use Rattle.sshkey_userauth.specs.declared.judgement.Requirements.{Requirements}
 use Rattle.sshkey_userauth.specs.declared.judgement.name.KeyForm.{KeyForm}
 use Rattle.sshkey_userauth.specs.declared.judgement.name.KeyForm.TheVariants.{Certified, Plain}
 use Rattle.user_keys.specs.CertificateLogins.{BindsTogether}
-use Rattle.publickey_login.specs.Logins.{Login}
-use Rattle.publickey_login.specs.Searches.{Found}
+use Rattle.publickey_login.specs.Sources.{Login, Found, IsCertificateSource, IsKeySource, authorities_of}
 use Rattle.publickey_login.specs.Signatures.{BySshd, IsLeft, Signed}
-use Rattle.publickey_login.specs.Sources.{IsCertificateSource, IsKeySource, authorities_of}
 use Rattle.publickey_login.specs.declared.grant.PublickeyGrant.{PublickeyGrant}
 
 -- ---- who is let in, signatures aside

@@ -1,9 +1,9 @@
 -- What holds of all logins.
 use Rattle.std.specs.Prelude.{◌≡◌, ◌↔◌, Bool, Option}
-use Rattle.login_terms.specs.Terms.{terms_of}
+use Rattle.login_terms.specs.Options.{terms_of}
 use Rattle.sshkey_model.specs.Verification.{Question}
 use Rattle.publickey_login.specs.Grants.{IsAnswered, IsLogin, IsPending}
-use Rattle.publickey_login.specs.Logins.{Login}
+use Rattle.publickey_login.specs.Sources.{Login}
 use Rattle.publickey_login.specs.Signatures.{Signed}
 use Rattle.publickey_login.specs.declared.grant.PublickeyGrant.{PublickeyGrant}
 

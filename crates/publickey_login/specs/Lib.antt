@@ -1,7 +1,4 @@
 pub mod Signatures
-pub mod Refusals
-pub mod Logins
-pub mod Searches
 pub mod Sources
 pub mod Grants
 pub mod Stops
@@ -10,5 +7,4 @@ pub mod Results
 pub mod Laws
 pub mod Examples
 pub mod LoginExamples
-pub mod GrantExamples
 pub mod RefusalExamples

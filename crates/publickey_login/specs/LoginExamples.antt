@@ -1,23 +1,23 @@
 -- Worked examples of who is let in by what, on both sides of each edge (sshd_config(5);
 -- auth2-pubkey.c and auth2-pubkeyfile.c of OpenSSH).
-use Rattle.std.specs.Prelude.{◌≡◌, ℕ, List, [], ◌∷◌, Bool, true, false, Some, None, codes}
+use Rattle.std.specs.Prelude.{◌≡◌, ℕ, List, [], ◌∷◌, Bool, true, false, Some, None, codes, Option}
 use Rattle.std.specs.declared.net.ip_addr.IpAddr.{IpAddr}
-use Rattle.login_policy.specs.Examples.{fields, of_fields}
+use Rattle.login_policy.specs.Examples.{fields, of_fields, dsa_key}
 use Rattle.login_policy.specs.declared.client.Client.TheVariants.{At, LeftToCaller, Unknown}
-use Rattle.login_terms.specs.Terms.{all_permitted, no_terms}
+use Rattle.login_terms.specs.Options.{all_permitted, no_terms}
 use Rattle.sshkey_model.specs.CertificateExamples.{authority}
 use Rattle.sshkey_model.specs.Certificates.{Certificate}
 use Rattle.sshkey_model.specs.Fingerprints.{fingerprint}
 use Rattle.sshkey_model.specs.Names.{Sha256}
 use Rattle.sshkey_model.specs.Verification.{Question}
 use Rattle.sshkey_userauth.specs.declared.judgement.Requirements.{Requirements}
-use Rattle.publickey_login.specs.Grants.{IsAnswered, required_of}
-use Rattle.publickey_login.specs.Logins.{Files, InCertificate, Login, Principals, Read, Text, Trusted, Unreadable, address_of, client_known, client_seen}
-use Rattle.publickey_login.specs.Searches.{ArePassed, Found, IsOfFirst}
+use Rattle.publickey_login.specs.Grants.{IsAnswered, required_of, GrantsCertificate, GrantsKey, IsLogin, IsPending, MayOffer}
+use Rattle.publickey_login.specs.Sources.{Files, InCertificate, Login, Principals, Read, Text, Trusted, Unreadable, address_of, client_known, client_seen, ArePassed, Found, IsOfFirst, AuthorityGoesOn, IsCertificateSource, IsKeySource, IsListed, IsOfAuthority, counted_in, own_terms, AuthorityLine, IsFoundBy, KeyLine, RefusesBy, PrincipalsGoOn}
 use Rattle.publickey_login.specs.Signatures.{BySshd, ByTransport, Request}
-use Rattle.publickey_login.specs.Sources.{AuthorityGoesOn, IsCertificateSource, IsKeySource, IsListed, IsOfAuthority, counted_in, own_terms}
 use Rattle.publickey_login.specs.declared.grant.PublickeyGrant.{PublickeyGrant}
 use Rattle.publickey_login.specs.declared.grant.Source.TheVariants as source
+use Rattle.sshkey_model.specs.Keys.{Key}
+use Rattle.user_keys.specs.UserLogins.{UserLogin}
 
 -- ---- texts
 
@@ -126,3 +126,44 @@ Answered = IsAnswered (λ q. false) None
     × ¬ IsAnswered (λ q. true) (Some None)
     × ((q : Question) → IsAnswered (λ q. true) (Some (Some q)))
     × ((q : Question) → ¬ IsAnswered (λ q. false) (Some (Some q)))
+
+-- Worked examples of who is granted nothing, and who does not log in: each with one thing changed
+-- (auth2-pubkey.c of OpenSSH).
+
+abbrev pub trusting_all : Login
+trusting_all = login (trusting [] InCertificate [])
+
+-- A revoked key, a DSA key, and one that no text has: an authority lets in no key by itself.
+abbrev pub Keys : Type 0
+Keys = ((l : Login) (k : Key) (g : PublickeyGrant) → ¬ GrantsKey (record l { revokes_key = λ key. true }) k g)
+    × ((l : Login) (g : PublickeyGrant) → ¬ GrantsKey l dsa_key g)
+    × ((g : PublickeyGrant) → ¬ GrantsKey trusting_all fields.key g)
+    × ((g : PublickeyGrant) → ¬ GrantsKey (login (trusting (Unreadable ∷ []) InCertificate [])) fields.key g)
+
+-- A revoked certificate; one before and after its window; of an authority whom nobody trusts; that
+-- lists nobody; and where a file of principals has no line.
+abbrev pub Certificates : Type 0
+Certificates = ((l : Login) (c : Certificate) (g : PublickeyGrant) → ¬ GrantsCertificate (record l { revokes = λ key identity. true }) c g)
+    × ((l : Login) (g : PublickeyGrant) → ¬ GrantsCertificate (record l { time = 99 }) certificate g)
+    × ((l : Login) (g : PublickeyGrant) → ¬ GrantsCertificate (record l { time = 200 }) certificate g)
+    × ((l : Login) (g : PublickeyGrant) → ¬ GrantsCertificate l nobodys g)
+    × ((g : PublickeyGrant) → ¬ GrantsCertificate (login (record (trusting [] InCertificate []) { authorities = [] })) certificate g)
+    × ((g : PublickeyGrant) → ¬ GrantsCertificate (login (trusting [] (Files []) [])) certificate g)
+    × ((g : PublickeyGrant) → ¬ GrantsCertificate (login (trusting (Unreadable ∷ []) InCertificate [])) certificate g)
+
+-- Where the verifier says no nobody logs in who signs here, nor by a certificate at all, and none may
+-- offer one.
+abbrev pub Logins : Type 0
+Logins = ((l : Login) (g : PublickeyGrant) (session_id bytes : List ℕ) (host_key : Option (List ℕ)) → ¬ IsLogin (λ q. false) l (Request session_id host_key bytes) g)
+    × ((l : Login) (g : PublickeyGrant) (client : Option (Option Question)) → ¬ IsPending l BySshd g None (Some None))
+    × ((is : MayOffer (λ q. false) trusting_all) → is.1.authority ≡ None)
+    × ¬ MayOffer (λ q. true) (login (record (trusting [] InCertificate []) { authorities = [] }))
+
+-- Lines of keys and of authorities that refuse are passed over, and a key's line is for no name. A
+-- certificate that lists somebody is let in by its authority.
+abbrev pub Refusals : Type 0
+Refusals = ((u : UserLogin) (k : Key) (text : List ℕ) → ¬ RefusesBy u (KeyLine k) text)
+    × ((u : UserLogin) (c : Certificate) (text : List ℕ) → ¬ RefusesBy u (AuthorityLine c) text)
+    × ((u : UserLogin) (k : Key) (text : List ℕ) (f : Found) → IsFoundBy u (KeyLine k) text f → f.name ≡ [])
+    × PrincipalsGoOn trusting_all nobodys InCertificate
+    × ¬ PrincipalsGoOn trusting_all certificate InCertificate

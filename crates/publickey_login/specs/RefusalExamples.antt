@@ -11,13 +11,10 @@ use Rattle.user_keys.specs.UserLogins.{UserLogin}
 use Rattle.user_keys.specs.declared.refusal.Reason.{Reason}
 use Rattle.user_keys.specs.declared.refusal.Reason.TheVariants.{Elsewhere, Expired}
 use Rattle.user_keys.specs.declared.refusal.UserRefusal.TheVariants as why
-use Rattle.publickey_login.specs.GrantExamples.{trusting_all}
+use Rattle.publickey_login.specs.LoginExamples.{trusting_all, certificate, login, nobodys, trusting}
 use Rattle.publickey_login.specs.Grants.{MayOffer}
-use Rattle.publickey_login.specs.LoginExamples.{certificate, login, nobodys, trusting}
-use Rattle.publickey_login.specs.Logins.{Files, InCertificate, Login, Read, Unreadable}
+use Rattle.publickey_login.specs.Sources.{Files, InCertificate, Login, Read, Unreadable, AuthorityLine, KeyLine, PrincipalLine, Sought, user_of}
 use Rattle.publickey_login.specs.Results.{Decides, authority_in, client_in, decides_alone, grant_in}
-use Rattle.publickey_login.specs.Searches.{AuthorityLine, KeyLine, PrincipalLine, Sought}
-use Rattle.publickey_login.specs.Sources.{user_of}
 use Rattle.publickey_login.specs.Stops.{IsCertificateRefused, IsKeyRefused, IsUnread, IsWhy, PrincipalsRefuseFirst, RefusesFirst, refusal_at, refusal_for, source_in}
 use Rattle.publickey_login.specs.declared.grant.Source.{Source}
 use Rattle.publickey_login.specs.declared.grant.Source.TheVariants as source

@@ -3,8 +3,8 @@ use Rattle.std.specs.Prelude.{◌≡◌, ◌≢◌, ◌⊎◌, ℕ, List, [], Bo
 use Rattle.login_policy.specs.declared.refusal.LoginRefusal.{LoginRefusal}
 use Rattle.login_policy.specs.declared.refusal.LoginRefusal.TheVariants as policy
 use Rattle.login_policy.specs.declared.refusal.LoginRefusal.TheVariants.{Invalid}
-use Rattle.openssh_limits.specs.Keys.{openssh_accepts_key}
-use Rattle.sshkey_cert.specs.Questions.{certificate_question}
+use Rattle.openssh_limits.specs.Limits.{openssh_accepts_key}
+use Rattle.sshkey_cert.specs.Validity.{certificate_question}
 use Rattle.sshkey_cert.specs.declared.certificate.refusal.CertificateRefusal.TheVariants.{Signature}
 use Rattle.sshkey_keys.specs.Keys.{key_of}
 use Rattle.sshkey_keys.specs.Questions.{asks}
@@ -20,11 +20,9 @@ use Rattle.user_keys.specs.declared.login.UserLogin as code
 use Rattle.user_keys.specs.declared.refusal.UserRefusal.{UserRefusal}
 use Rattle.user_keys.specs.declared.refusal.UserRefusal.TheVariants as why
 use Rattle.publickey_login.specs.Grants.{Grants, GrantsCertificate, GrantsKey, IsAnswered, IsPending}
-use Rattle.publickey_login.specs.Logins.{Login, Text}
-use Rattle.publickey_login.specs.Searches.{AuthorityLine, Found, GoesOn, IsFoundBy, IsFoundIn, KeyLine, PrincipalLine, Sought, by_lines}
+use Rattle.publickey_login.specs.Sources.{Login, Text, AuthorityLine, Found, GoesOn, IsFoundBy, IsFoundIn, KeyLine, PrincipalLine, Sought, by_lines, AuthorityGoesOn, IsListed, IsOfAuthority, user_of}
 use Rattle.publickey_login.specs.Stops.{AuthorityRefusesFirst, HasNone, IsUnclearBy, IsWhy, IsWhyNoAuthority, IsWhyNoCertificate, IsWhyNoKey, IsWhyNothing, IsWhyStopped, IsWhyUnanswered, RefusesFirst, RefusesWith, source_in}
 use Rattle.publickey_login.specs.Signatures.{Signed}
-use Rattle.publickey_login.specs.Sources.{AuthorityGoesOn, IsListed, IsOfAuthority, user_of}
 use Rattle.publickey_login.specs.Values.{found_of, trusted_of}
 use Rattle.publickey_login.specs.declared.grant.PublickeyGrant.{PublickeyGrant}
 use Rattle.publickey_login.specs.declared.grant.Source.{Source}

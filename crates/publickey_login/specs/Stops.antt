@@ -4,7 +4,7 @@ use Rattle.std.specs.Option.{option_or}
 use Rattle.login_policy.specs.Refusals.{RefusesLogin}
 use Rattle.login_policy.specs.declared.refusal.LoginRefusal.{LoginRefusal}
 use Rattle.login_policy.specs.declared.refusal.LoginRefusal.TheVariants.{Invalid}
-use Rattle.openssh_limits.specs.Keys.{openssh_accepts_key}
+use Rattle.openssh_limits.specs.Limits.{openssh_accepts_key}
 use Rattle.sshkey_base.specs.Reading.{NoSpelling}
 use Rattle.sshkey_base.specs.declared.error.Error.{Error}
 use Rattle.sshkey_cert.specs.declared.certificate.refusal.CertificateRefusal.TheVariants.{Signature}
@@ -15,17 +15,14 @@ use Rattle.sshkey_model.specs.Refusals.{has_trusted_authority}
 use Rattle.sshkey_model.specs.Verification.{Question}
 use Rattle.sshkey_userauth.specs.declared.judgement.name.KeyForm.{KeyForm}
 use Rattle.user_keys.specs.Answers.{IsWhyNoLine}
-use Rattle.user_keys.specs.PrincipalLogins.{IsWhyUndecided}
+use Rattle.user_keys.specs.Principals.{IsWhyUndecided}
 use Rattle.user_keys.specs.UserLogins.{OfCertificate, OfKey, UserLogin}
 use Rattle.user_keys.specs.declared.refusal.Reason.{Reason}
 use Rattle.user_keys.specs.declared.refusal.UserRefusal.{UserRefusal}
 use Rattle.user_keys.specs.declared.refusal.UserRefusal.TheVariants as why
 use Rattle.publickey_login.specs.Grants.{Grants, IsAnswered, IsPending, policy_login, required_of}
-use Rattle.publickey_login.specs.Logins.{Files, InCertificate, Login, Principals, Read, Text, Unreadable}
-use Rattle.publickey_login.specs.Refusals.{IsWhyUnsigned}
-use Rattle.publickey_login.specs.Searches.{ArePassed, AuthorityLine, Found, GoesOn, IsOfFirst, KeyLine, Passes, PrincipalLine, Sought, in_principals, in_text}
-use Rattle.publickey_login.specs.Signatures.{Signed}
-use Rattle.publickey_login.specs.Sources.{AuthorityGoesOn, FilesGoOn, IsCertificateSource, authorities_of, user_of}
+use Rattle.publickey_login.specs.Sources.{Files, InCertificate, Login, Principals, Read, Text, Unreadable, ArePassed, AuthorityLine, Found, GoesOn, IsOfFirst, KeyLine, Passes, PrincipalLine, Sought, in_principals, in_text, AuthorityGoesOn, FilesGoOn, IsCertificateSource, authorities_of, user_of}
+use Rattle.publickey_login.specs.Signatures.{IsWhyUnsigned, Signed}
 use Rattle.publickey_login.specs.declared.grant.PublickeyGrant.{PublickeyGrant}
 use Rattle.publickey_login.specs.declared.grant.Source.{Source}
 use Rattle.publickey_login.specs.declared.grant.Source.TheVariants as source

@@ -1,7 +1,7 @@
 -- What the values of a call mean.
 use Rattle.std.specs.Prelude.{◌≢◌, ℕ, List, Bool, Option, map, option_map, string_bytes, Result, Ok, Err}
-use Rattle.login_terms.specs.Terms.{terms_of}
-use Rattle.sshkey_cert.specs.CertificateValues.{certificate_of}
+use Rattle.login_terms.specs.Options.{terms_of}
+use Rattle.sshkey_cert.specs.Certificates.{certificate_of}
 use Rattle.sshkey_cert.specs.Validity.{fingerprints_of}
 use Rattle.sshkey_keys.specs.Keys.{key_of}
 use Rattle.sshkey_keys.specs.Questions.{asks}
@@ -10,8 +10,8 @@ use Rattle.sshkey_krl.specs.Revocation.{CertificateIdentity}
 use Rattle.sshkey_model.specs.Verification.{Question}
 use Rattle.sshkey_userauth.specs.Values.{lent}
 use Rattle.user_keys.specs.declared.grant.NamedLine.{NamedLine}
-use Rattle.publickey_login.specs.Logins as logins
-use Rattle.publickey_login.specs.Searches as searches
+use Rattle.publickey_login.specs.Sources as logins
+use Rattle.publickey_login.specs.Sources as searches
 use Rattle.publickey_login.specs.Signatures as model
 use Rattle.publickey_login.specs.declared.offer.Offer.{Offer}
 use Rattle.publickey_login.specs.declared.place.Place.{Place}

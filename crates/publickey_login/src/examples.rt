@@ -1,9 +1,8 @@
 //! Worked examples of who has signed, on both sides of each edge.
-#![tactic(auto, unfolding(crate::specs::Searches::IsOfFirst, crate::specs::Searches::ArePassed))]
+#![tactic(auto, unfolding(crate::specs::Sources::IsOfFirst, crate::specs::Sources::ArePassed))]
 
 ghost use Rattle.publickey_login.specs.Examples.{Flagless, Flags, Left, Named, Signs};
-ghost use Rattle.publickey_login.specs.GrantExamples.{Certificates, Keys, Logins, Refusals};
-ghost use Rattle.publickey_login.specs.LoginExamples.{Answered, Authorities, Counted, FirstTexts, Listed, OwnTerms, PassedTexts, Places, Required, Sources};
+ghost use Rattle.publickey_login.specs.LoginExamples.{Certificates, Keys, Logins, Refusals, Answered, Authorities, Counted, FirstTexts, Listed, OwnTerms, PassedTexts, Places, Required, Sources};
 ghost use Rattle.publickey_login.specs.RefusalExamples.{DecidesAlone, Decisions, Ends, FirstRefusals, Offers, PrincipalRefusals, RefusedCertificates, RefusedKeys, UnreadTexts};
 
 /// The names under which a key or a certificate signs.

@@ -2,16 +2,15 @@
 
 ghost use Rattle.std.specs.Prelude.{◌≡◌, ◌≢◌, ℕ, List, Bool, IfErr, IfOk};
 ghost use Rattle.sshkey_base.specs.declared.error.Error.TheVariants as error;
-ghost use Rattle.sshkey_cert.specs.CertificateValues.{certificate_of};
+ghost use Rattle.sshkey_cert.specs.Certificates.{certificate_of};
 ghost use Rattle.sshkey_keys.specs.Keys.{key_of};
-ghost use Rattle.sshkey_keys_ref.specs.KeyDataRef.{key_bytes};
+ghost use Rattle.sshkey_keys_ref.specs.Keys.{key_bytes};
 ghost use Rattle.sshkey_keys.specs.Fingerprints.{IsFingerprint};
 ghost use Rattle.sshkey_krl.specs.Revocation.{CertificateIdentity};
 ghost use Rattle.sshkey_model.specs.Certificates.{SpellsCertificate};
 ghost use Rattle.sshkey_model.specs.Names.{Sha256};
-ghost use Rattle.publickey_login.specs.Logins.{address_of};
+ghost use Rattle.publickey_login.specs.Sources.{address_of, counted_in};
 ghost use Rattle.publickey_login.specs.Results.{AsksOf, CertificateHolds, HoldsExactly, IsPolicyRefusal, KeyHolds};
-ghost use Rattle.publickey_login.specs.Sources.{counted_in};
 ghost use Rattle.publickey_login.specs.Values.{login_of};
 ghost use Rattle.publickey_login.specs.declared.refusal.PublickeyRefusal.TheVariants.{Memory, NoKey};
 

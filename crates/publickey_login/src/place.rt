@@ -1,7 +1,7 @@
 //! Where and when a client asks.
 
 ghost use Rattle.std.specs.Prelude.{◌≡◌};
-ghost use Rattle.publickey_login.specs.Logins.{client_known};
+ghost use Rattle.publickey_login.specs.Sources.{client_known};
 
 use login_policy::Client;
 

@@ -4,8 +4,7 @@ ghost use Rattle.std.specs.Prelude.{◌≡◌, ◌↔◌, IfErr, IfOk, IsTrue};
 ghost use Rattle.sshkey_keys.specs.Keys.{key_of};
 ghost use Rattle.sshkey_keys.specs.Questions.{asks};
 ghost use Rattle.sshkey_userauth.specs.Values.{request_of};
-ghost use Rattle.publickey_login.specs.Refusals.{IsRefusalFor, IsWhyUnasked};
-ghost use Rattle.publickey_login.specs.Signatures.{IsAskedOfRequest};
+ghost use Rattle.publickey_login.specs.Signatures.{IsRefusalFor, IsWhyUnasked, IsAskedOfRequest};
 ghost use Rattle.publickey_login.specs.declared.refusal.PublickeyRefusal.TheVariants.{NoSignature, TooLong};
 
 use crate::refusal::PublickeyRefusal;

@@ -3,8 +3,7 @@
 ghost use Rattle.std.specs.Prelude.{◌≡◌, ◌≢◌, IfErr, OnOk, option_map};
 ghost use Rattle.sshkey_keys.specs.Keys.{key_of};
 ghost use Rattle.sshkey_userauth.specs.Values.{lent};
-ghost use Rattle.publickey_login.specs.Refusals.{IsWhyFlagsOf, IsWhyNoFlags, IsWhyUnnamed, IsWhyUnsigned, NeedsMemory};
-ghost use Rattle.publickey_login.specs.Signatures.{AreFlags, HasFlags, IsLeft, IsNamed};
+ghost use Rattle.publickey_login.specs.Signatures.{IsWhyFlagsOf, IsWhyNoFlags, IsWhyUnnamed, IsWhyUnsigned, NeedsMemory, AreFlags, HasFlags, IsLeft, IsNamed};
 ghost use Rattle.publickey_login.specs.Values.{LeavesExactly, offer_of, signed_of};
 ghost use Rattle.publickey_login.specs.declared.refusal.PublickeyRefusal.TheVariants.{Memory};
 

@@ -1,16 +1,15 @@
 //! By what a login is let in.
 
 ghost use Rattle.std.specs.Prelude.{◌≡◌, IfErr, IfOk, IsTrue};
-ghost use Rattle.openssh_limits.specs.Keys.{openssh_accepts_key};
-ghost use Rattle.sshkey_cert.specs.CertificateValues.{certificate_of};
+ghost use Rattle.openssh_limits.specs.Limits.{openssh_accepts_key};
+ghost use Rattle.sshkey_cert.specs.Certificates.{certificate_of};
 ghost use Rattle.sshkey_cert.specs.Validity.{fingerprints_of};
 ghost use Rattle.sshkey_keys.specs.Keys.{key_of};
 ghost use Rattle.sshkey_model.specs.Certificates.{IsCertificate};
 ghost use Rattle.sshkey_model.specs.Keys.{IsKey};
 ghost use Rattle.sshkey_model.specs.Refusals.{has_trusted_authority};
-ghost use Rattle.publickey_login.specs.Logins.{Login};
+ghost use Rattle.publickey_login.specs.Sources.{Login, IsCertificateSource, IsKeySource};
 ghost use Rattle.publickey_login.specs.Results.{AsksOf, Originates, OriginatesBy, OwnOrigin};
-ghost use Rattle.publickey_login.specs.Sources.{IsCertificateSource, IsKeySource};
 ghost use Rattle.publickey_login.specs.Stops.{IsWhyNoKeySource, IsWhyNoSource};
 ghost use Rattle.publickey_login.specs.declared.refusal.PublickeyRefusal.TheVariants.{Memory};
 

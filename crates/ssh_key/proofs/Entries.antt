@@ -1,3 +1,3 @@
 -- A text begins with one field, and with one option.
 pub use Rattle.sshkey_entries.proofs.Fields.{same_field}
-pub use Rattle.sshkey_entries.proofs.OneOption.{one_option, some_option}
+pub use Rattle.sshkey_entries.proofs.OptionItems.{one_option, some_option}

@@ -1,11 +1,3 @@
-pub use Rattle.sshkey_authorized_keys.specs.Dividers
-pub use Rattle.sshkey_authorized_keys.specs.OptionAnswers
+pub use Rattle.sshkey_authorized_keys.specs.Options
 pub use Rattle.sshkey_authorized_keys.specs.AuthorizedEntries
-pub use Rattle.sshkey_authorized_keys.specs.EntryFaults
-pub use Rattle.sshkey_authorized_keys.specs.EntryNeeds
 pub use Rattle.sshkey_authorized_keys.specs.OpenSshEntries
-pub use Rattle.sshkey_authorized_keys.specs.OpenSshFaults
-pub use Rattle.sshkey_authorized_keys.specs.OptionCuts
-pub use Rattle.sshkey_authorized_keys.specs.OpenSshItems
-pub use Rattle.sshkey_authorized_keys.specs.ReadBack
-pub use Rattle.sshkey_authorized_keys.specs.OpenSshNeeds

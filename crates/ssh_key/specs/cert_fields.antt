@@ -1,3 +1,2 @@
-pub use Rattle.sshkey_cert_values.specs.ToBeSignedValues
-pub use Rattle.sshkey_cert_values.specs.ToBeSignedParts
-pub use Rattle.sshkey_cert_values.specs.ToBeSignedComparisons
+pub use Rattle.sshkey_cert_values.specs.CertificateFields
+pub use Rattle.sshkey_cert_values.specs.Comparisons

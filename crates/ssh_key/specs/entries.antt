@@ -1,17 +1,11 @@
 pub use Rattle.sshkey_entries.specs.Entries
 pub use Rattle.sshkey_entries.specs.Items
-pub use Rattle.sshkey_entries.specs.ConfigOptions
 pub use Rattle.sshkey_entries.specs.AuthorizedKeys
 pub use Rattle.sshkey_entries.specs.KnownHosts
-pub use Rattle.sshkey_entries.specs.OptionEnds
 pub use Rattle.sshkey_entries.specs.Fields
 pub use Rattle.sshkey_entries.specs.OpenSshLines
 pub use Rattle.sshkey_entries.specs.OptionItems
-pub use Rattle.sshkey_entries.specs.HostNames
 pub use Rattle.sshkey_entries.specs.HostVerdicts
 pub use Rattle.sshkey_entries.specs.Laws
 pub use Rattle.sshkey_entries.specs.Answers
-pub use Rattle.sshkey_entries.specs.MadeTexts
-pub use Rattle.sshkey_entries.specs.Cuts
-pub use Rattle.sshkey_entries.specs.KeyFields
 pub use Rattle.sshkey_entries.specs.OtherKeys

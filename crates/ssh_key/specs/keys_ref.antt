@@ -1,10 +1,3 @@
 pub use Rattle.sshkey_keys_ref.specs.Taking
-pub use Rattle.sshkey_keys_ref.specs.Kinds
-pub use Rattle.sshkey_keys_ref.specs.NameRef
-pub use Rattle.sshkey_keys_ref.specs.CertifiedBodies
-pub use Rattle.sshkey_keys_ref.specs.NormalBytes
-pub use Rattle.sshkey_keys_ref.specs.KeyFingerprints
-pub use Rattle.sshkey_keys_ref.specs.KeyDataRef
-pub use Rattle.sshkey_keys_ref.specs.KeyRef
-pub use Rattle.sshkey_keys_ref.specs.Dispatch
-pub use Rattle.sshkey_keys_ref.specs.SignatureRef
+pub use Rattle.sshkey_keys_ref.specs.Keys
+pub use Rattle.sshkey_keys_ref.specs.Signatures

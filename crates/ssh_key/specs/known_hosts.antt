@@ -1,7 +1,4 @@
 pub use Rattle.sshkey_known_hosts.specs.HostEntries
 pub use Rattle.sshkey_known_hosts.specs.HostFaults
-pub use Rattle.sshkey_known_hosts.specs.OpenSshHosts
-pub use Rattle.sshkey_known_hosts.specs.MadeEntries
 pub use Rattle.sshkey_known_hosts.specs.Verdicts
-pub use Rattle.sshkey_known_hosts.specs.UnreadableLines
 pub use Rattle.sshkey_known_hosts.specs.Hmac

@@ -1,4 +1,3 @@
-pub use Rattle.sshkey_pair_kinds.specs.PrivateHalves
 pub use Rattle.sshkey_pair_kinds.specs.Pairs
 pub use Rattle.sshkey_pair_kinds.specs.SkEcdsaSha2NistP256
 pub use Rattle.sshkey_pair_kinds.specs.SkEd25519

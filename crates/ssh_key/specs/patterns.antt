@@ -1,2 +1,1 @@
 pub use Rattle.sshkey_matching.specs.Patterns
-pub use Rattle.sshkey_matching.specs.LetterCases

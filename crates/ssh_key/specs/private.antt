@@ -1,12 +1,6 @@
-pub use Rattle.sshkey_private.specs.Halves
-pub use Rattle.sshkey_private.specs.Padded
-pub use Rattle.sshkey_private.specs.Inner
-pub use Rattle.sshkey_private.specs.Openings
+pub use Rattle.sshkey_private.specs.PrivateParts
 pub use Rattle.sshkey_private.specs.PrivateKeyFormats
-pub use Rattle.sshkey_private.specs.PrivateKeyGrammars
-pub use Rattle.sshkey_private.specs.PaddedKeys
 pub use Rattle.sshkey_private.specs.Forms
 pub use Rattle.sshkey_private.specs.PrivateKeys
-pub use Rattle.sshkey_private.specs.Written
 pub use Rattle.sshkey_private.specs.Comparisons
 pub use Rattle.sshkey_private.specs.PrivateKeyExamples

@@ -1,11 +1,4 @@
 pub use Rattle.sshkey_public.specs.Words
-pub use Rattle.sshkey_public.specs.Blobs
 pub use Rattle.sshkey_public.specs.Lines
-pub use Rattle.sshkey_public.specs.LineNeeds
-pub use Rattle.sshkey_public.specs.LineFaults
-pub use Rattle.sshkey_public.specs.OneLine
-pub use Rattle.sshkey_public.specs.Filling
-pub use Rattle.sshkey_public.specs.WritingLines
+pub use Rattle.sshkey_public.specs.WrittenLines
 pub use Rattle.sshkey_public.specs.PublicKeys
-pub use Rattle.sshkey_public.specs.Judging
-pub use Rattle.sshkey_public.specs.Comparisons

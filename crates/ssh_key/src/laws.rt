@@ -30,9 +30,8 @@ ghost use Rattle.sshkey_model.specs.PrivateKeys.{HasPrivateKeyPlaces, IsPrivateK
 ghost use Rattle.sshkey_model.specs.Signatures.{IsSignature, signature, signature_at};
 ghost use Rattle.sshkey_model.specs.SshSignatures.{HasSshSignaturePlaces, IsSshSignature, normal_ssh_signature, signed_data, ssh_signature};
 ghost use Rattle.sshkey_model.specs.Texts.{IsText, string, text_at, texts, texts_at};
-ghost use Rattle.sshkey_ciphers.specs.KdfFormats.{cipher_at, kdf_algorithm_at, kdf_at};
-ghost use Rattle.sshkey_private.specs.PaddedKeys.{HasPaddedPlaces, padded_private_key};
-ghost use Rattle.sshkey_private.specs.PrivateKeyGrammars.{private_value_at};
+ghost use Rattle.sshkey_ciphers.specs.Formats.{cipher_at, kdf_algorithm_at, kdf_at};
+ghost use Rattle.sshkey_private.specs.PrivateKeyFormats.{HasPaddedPlaces, padded_private_key, private_value_at};
 ghost use Rattle.sshkey_sshsig.specs.SshSignatureReaders.{ssh_signature_value_at};
 
 pub use sshkey_authorized_keys::laws::equal_authorized_keys;
@@ -194,7 +193,7 @@ pub use sshkey_sshsig::laws::spelled_ssh_signature;
 /// Of every kind of value: two have equal normal forms exactly if they agree in every field, of
 /// private keys also in checkint and tag, and what reads a normal form gives the value that it is
 /// of, so that normalising twice is normalising once.
-#[tactic(auto, using(sshkey_model::proofs::Lawful::laws, sshkey_ciphers::proofs::CipherLaws::laws, sshkey_private::proofs::PrivateKeyLaws::laws, crate::proofs::NormalForms::opened))]
+#[tactic(auto, using(sshkey_model::proofs::Lawful::laws, sshkey_ciphers::proofs::Lawful::laws, sshkey_private::proofs::PrivateKeyLaws::laws, crate::proofs::NormalForms::opened))]
 pub fn normal_forms()
     ensures mpints { AreNormalForms IsMpint string mpint_at }
     ensures texts { AreNormalForms IsText string text_at }
@@ -231,7 +230,7 @@ pub fn normal_forms()
 {}
 
 /// Of every kind of value: no spelling begins another.
-#[tactic(auto, using(sshkey_model::proofs::Lawful::laws, sshkey_ciphers::proofs::CipherLaws::laws), unfolding(sshkey_model::specs::Parts::IsPrefixFree))]
+#[tactic(auto, using(sshkey_model::proofs::Lawful::laws, sshkey_ciphers::proofs::Lawful::laws), unfolding(sshkey_model::specs::Parts::IsPrefixFree))]
 pub fn prefixes()
     ensures mpints { NoneBegins IsMpint string }
     ensures texts { NoneBegins IsText string }

@@ -3,7 +3,7 @@ use Rattle.std.proofs.Common.{◌≡◌, ◌≢◌, ℕ, zero, suc, ◌<◌, ◌
 use Rattle.std.proofs.lemmas.Bool.{and_parts, not-true, cases_lt}
 use Rattle.std.proofs.lemmas.List.Sums.{count_by_more_yes, count_by_more_no, sum_by-append}
 use Rattle.sshkey_entries.specs.Items.{is_comma, is_quote, is_odd, is_quoted, is_divider, items, without_empty_last}
-use Rattle.sshkey_authorized_keys.specs.Dividers.{FindsDivider}
+use Rattle.sshkey_authorized_keys.specs.Options.{FindsDivider}
 use Rattle.sshkey_entries.proofs.Cuts.{cuts, cuts_same, cuts_none, cuts_first, some_cuts, pieces_cuts}
 use Rattle.sshkey_entries.proofs.PatternLists.{kept_first, kept_last}
 

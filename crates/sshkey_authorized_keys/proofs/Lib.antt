@@ -1,8 +1,4 @@
 pub mod Dividers
-pub mod Options
-pub mod OneLine
+pub mod Entries
 pub mod OptionEnds
-pub mod OptionCuts
-pub mod FoundOptions
-pub mod YieldedOptions
-pub mod ReadBack
+pub mod OpenSshOptions

@@ -9,18 +9,14 @@ use Rattle.sshkey_base.specs.declared.error.Error.{Error}
 use Rattle.sshkey_base.specs.declared.error.Error.TheVariants.{FormatEncoding}
 use Rattle.sshkey_entries.specs.AuthorizedKeys.{AuthorizedKey}
 use Rattle.sshkey_entries.specs.Entries.{hash_sign}
-use Rattle.sshkey_entries.specs.Fields.{without_blanks, AreKeyFields, AreNoKeyFields}
+use Rattle.sshkey_entries.specs.Fields.{without_blanks, AreKeyFields, AreNoKeyFields, EndsOptions, is_blank, is_inside, HasKeyFault, NeedsKeyFields}
 use Rattle.sshkey_entries.specs.OpenSshLines.{IsAfterOptions, IsAuthorizedLine}
-use Rattle.sshkey_entries.specs.OptionEnds.{EndsOptions, is_blank, is_inside}
-use Rattle.sshkey_entries.proofs.BlankPlaces.{blank_ascii}
+use Rattle.sshkey_entries.proofs.Fields.{blank_ascii}
 use Rattle.sshkey_entries.proofs.OneEntry.{one_end}
 use Rattle.sshkey_entries.proofs.OneOpenSshLine.{same_front}
 use Rattle.sshkey_entries.specs.Answers.{ReadsEntry, RefusesFor}
 use Rattle.sshkey_model.specs.Keys.{Key}
-use Rattle.sshkey_entries.specs.KeyFields.{HasKeyFault, NeedsKeyFields}
-use Rattle.sshkey_authorized_keys.specs.OpenSshNeeds.{AsksFor, NeedsAfterOptions, NeedsEntry}
-use Rattle.sshkey_authorized_keys.specs.OpenSshEntries.{openssh_entry_of}
-use Rattle.sshkey_authorized_keys.specs.OpenSshFaults.{EndsHere, HasNoEnd, HasTextFault, HasLineFault}
+use Rattle.sshkey_authorized_keys.specs.OpenSshEntries.{AsksFor, NeedsAfterOptions, NeedsEntry, openssh_entry_of, EndsHere, HasNoEnd, HasTextFault, HasLineFault}
 use Rattle.sshkey_authorized_keys.specs.declared.openssh.OpenSshEntry.{OpenSshEntry}
 
 -- ---- the end of options

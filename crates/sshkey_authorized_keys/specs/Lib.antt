@@ -1,11 +1,3 @@
-pub mod Dividers
-pub mod OptionAnswers
+pub mod Options
 pub mod AuthorizedEntries
-pub mod EntryFaults
-pub mod EntryNeeds
 pub mod OpenSshEntries
-pub mod OpenSshFaults
-pub mod OptionCuts
-pub mod OpenSshItems
-pub mod ReadBack
-pub mod OpenSshNeeds

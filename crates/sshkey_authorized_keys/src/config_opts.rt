@@ -5,10 +5,9 @@ ghost use Rattle.std.specs.Cmp.{partial_equiv_from_equiv};
 ghost use Rattle.std.specs.Cmp.Lexicographic.{nat_list_eq_equiv, pointwise};
 ghost use Rattle.std.specs.Iterator.{YieldsFirstRef, item_count};
 ghost use Rattle.sshkey_base.specs.declared.error.Error.TheVariants as wide;
-ghost use Rattle.sshkey_entries.specs.ConfigOptions.{is_option_character, AreOptionCharacters};
+ghost use Rattle.sshkey_entries.specs.AuthorizedKeys.{is_option_character, AreOptionCharacters};
 ghost use Rattle.sshkey_entries.specs.Items.{items};
-ghost use Rattle.sshkey_authorized_keys.specs.Dividers.{FindsDivider};
-ghost use Rattle.sshkey_authorized_keys.specs.OptionAnswers.{JudgesInMemory, JudgesOptions};
+ghost use Rattle.sshkey_authorized_keys.specs.Options.{FindsDivider, JudgesInMemory, JudgesOptions};
 
 use sshkey_base::{Error, Result, Text, encoding};
 use std::alloc::Global;

@@ -3,13 +3,10 @@
 ghost use Rattle.std.specs.Prelude.{◌≡◌, ◌<◌, ◌↔◌, ℕ, List, [], length, slice_index, IsTrue};
 ghost use Rattle.std.specs.Iterator.{item_count};
 ghost use Rattle.sshkey_entries.specs.Entries.{hash_sign};
-ghost use Rattle.sshkey_entries.specs.Fields.{AreNoKeyFields, filled_lines};
-ghost use Rattle.sshkey_entries.specs.OptionEnds.{is_blank};
+ghost use Rattle.sshkey_entries.specs.Fields.{AreNoKeyFields, filled_lines, is_blank};
 ghost use Rattle.sshkey_entries.specs.OpenSshLines.{IsAuthorizedLine, IsAfterOptions};
 ghost use Rattle.sshkey_entries.specs.Answers.{ReadsEntry, RefusesFor, YieldsAnswers};
-ghost use Rattle.sshkey_authorized_keys.specs.OpenSshEntries.{openssh_entry_of, openssh_key_in, openssh_options_of};
-ghost use Rattle.sshkey_authorized_keys.specs.OpenSshFaults.{CutsOptions, FindsEnd, HasLineFault, HasTextFault, EndsHere};
-ghost use Rattle.sshkey_authorized_keys.specs.OpenSshNeeds.{AnswersLine, AsksFor, NeedsAfterOptions, NeedsEntry};
+ghost use Rattle.sshkey_authorized_keys.specs.OpenSshEntries.{openssh_entry_of, openssh_key_in, openssh_options_of, CutsOptions, FindsEnd, HasLineFault, HasTextFault, EndsHere, AnswersLine, AsksFor, NeedsAfterOptions, NeedsEntry};
 
 use crate::entry::Entry;
 use crate::openssh_options::OpenSshOptions;

@@ -18,7 +18,7 @@ pub struct OpenSshOption<'a> {
 }
 
 impl<'a> OpenSshOption<'a> {
-    ghost use Rattle.sshkey_authorized_keys.specs.OpenSshItems.{CutsOption, key_option_of};
+    ghost use Rattle.sshkey_authorized_keys.specs.Options.{CutsOption, key_option_of};
 
     /// The option at the front of a text, and what follows it.
     fn split(text: &'a str) -> Option<(OpenSshOption<'a>, &'a str)>
@@ -102,7 +102,7 @@ impl<'a> OpenSshOptionsIter<'a> {
 }
 
 impl<'a> Iterator for OpenSshOptionsIter<'a> {
-    ghost use Rattle.sshkey_authorized_keys.specs.OpenSshItems.{YieldsOption};
+    ghost use Rattle.sshkey_authorized_keys.specs.Options.{YieldsOption};
 
     type Item = Result<OpenSshOption<'a>>;
 

@@ -3,8 +3,8 @@
 ghost use Rattle.std.specs.Prelude.{◌≡◌, ◌↔◌, ℕ, List, [], IfErr, IfOk, IsTrue};
 ghost use Rattle.sshkey_base.specs.declared.error.Error.TheVariants as wide;
 ghost use Rattle.sshkey_entries.specs.OptionItems.{MaySay, Says};
-ghost use Rattle.sshkey_entries.specs.Readings.{Tells};
-ghost use Rattle.sshkey_authorized_keys.specs.OpenSshItems.{FindsAlso, FindsIn, key_option_of};
+ghost use Rattle.sshkey_entries.specs.Answers.{Tells};
+ghost use Rattle.sshkey_authorized_keys.specs.Options.{FindsAlso, FindsIn, key_option_of};
 
 use crate::openssh_option::{OpenSshOption, OpenSshOptionsIter};
 use sshkey_base::{Result, Text};

@@ -4,8 +4,8 @@ ghost use Rattle.std.specs.Prelude.{◌≡◌, ◌<◌, ◌↔◌, IfErr, IfOk, 
 ghost use Rattle.sshkey_base.specs.declared.error.Error.TheVariants as wide;
 ghost use Rattle.sshkey_entries.specs.Items.{is_comma};
 ghost use Rattle.sshkey_entries.specs.OptionItems.{EndsOption, is_name_character, unescaped, without_commas};
-ghost use Rattle.sshkey_entries.specs.OptionEnds.{is_plain_quote};
-ghost use Rattle.sshkey_authorized_keys.specs.OptionCuts.{CutsName, CutsQuoted, CutsValue, FindsPlace, is_escape};
+ghost use Rattle.sshkey_entries.specs.Fields.{is_plain_quote};
+ghost use Rattle.sshkey_authorized_keys.specs.Options.{CutsName, CutsQuoted, CutsValue, FindsPlace, is_escape};
 
 use sshkey_base::Result;
 use std::alloc::Global;

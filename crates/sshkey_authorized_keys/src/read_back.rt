@@ -4,9 +4,8 @@ ghost use Rattle.std.specs.Prelude.{◌≡◌, IsTrue};
 ghost use Rattle.sshkey_base.specs.Causes.{cause, NoMemory};
 ghost use Rattle.sshkey_entries.specs.AuthorizedKeys.{IsAuthorizedKey};
 ghost use Rattle.sshkey_entries.specs.OpenSshLines.{IsAuthorizedLine};
-ghost use Rattle.sshkey_authorized_keys.specs.AuthorizedEntries.{IsOfKey, authorized_key_of};
+ghost use Rattle.sshkey_authorized_keys.specs.AuthorizedEntries.{IsOfKey, authorized_key_of, IsReadAs, TellsNot, TellsWhether};
 ghost use Rattle.sshkey_authorized_keys.specs.OpenSshEntries.{IsOfOpenSshKey, openssh_entry_of};
-ghost use Rattle.sshkey_authorized_keys.specs.ReadBack.{IsReadAs, TellsNot, TellsWhether};
 
 use crate::entry::Entry;
 use crate::laws::equal_authorized_keys;

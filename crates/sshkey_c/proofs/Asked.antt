@@ -14,10 +14,9 @@ use Rattle.sshkey_model.specs.Keys.{normal_key}
 use Rattle.sshkey_model.specs.Names.{Sha256}
 use Rattle.sshkey_model.specs.Parts.{flat}
 use Rattle.sshkey_model.specs.Verification.{Question}
-use Rattle.sshkey_c.specs.Asked.{AddsAsked, AreAsked, AreAskedFrom, IsUnraised, Questions, asked_bytes, asked_lengths, head, lengths, questions_bytes, ticket_of}
+use Rattle.sshkey_c.specs.Verdicts.{AddsAsked, AreAsked, AreAskedFrom, IsUnraised, Questions, asked_bytes, asked_lengths, head, lengths, questions_bytes, ticket_of, AreAnswered, AreLeft, IsWhyUnanswered, answers_in}
 use Rattle.sshkey_c.specs.Grants.{bit}
 use Rattle.sshkey_c.specs.Refusals.{refusal_of, said}
-use Rattle.sshkey_c.specs.Verdicts.{AreAnswered, AreLeft, IsWhyUnanswered, answers_in}
 use Rattle.sshkey_c.specs.declared.refusal.Refusal.{Refusal}
 
 pub joined : (m a b c d : List ℕ) → (((m ++ a) ++ b) ++ c) ++ d ≡ m ++ (a ++ (b ++ (c ++ d)))

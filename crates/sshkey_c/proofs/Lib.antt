@@ -1,11 +1,7 @@
 mod Asked
-mod Commands
-mod Digests
-mod Front
 mod Grants
-mod Laid
+mod Digests
 mod Pends
 mod Places
 mod Texts
 mod Verdicts
-mod Told

@@ -1,10 +1,10 @@
 -- The login that is asked for.
 use Rattle.std.proofs.Common.{◌≡◌, ℕ, List, Bor, Option, Result, ap, ◌∙◌}
 use Rattle.login_policy.specs.declared.client.Client.{Client}
-use Rattle.publickey_login.specs.Logins.{Login, Principals, Text}
+use Rattle.publickey_login.specs.Sources.{Login, Principals, Text}
 use Rattle.sshkey_base.specs.declared.error.Error.{Error}
 use Rattle.sshkey_calls.specs.Validations.{authorities_of}
-use Rattle.sshkey_entry_calls.specs.RevocationFiles.{one_revokes, one_revokes_key}
+use Rattle.sshkey_entry_calls.specs.Revocations.{one_revokes, one_revokes_key}
 use Rattle.sshkey_model.specs.Fingerprints.{Fingerprint}
 use Rattle.sshkey_revoked_keys.specs.declared.revoked_keys.RevokedKeys.{RevokedKeys}
 use Rattle.sshkey_userauth.specs.declared.judgement.Requirements.{Requirements}

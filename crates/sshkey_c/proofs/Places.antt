@@ -13,8 +13,7 @@ use Rattle.sshkey_model.specs.Texts.{IsText, string, text_at}
 use Rattle.sshkey_terms.specs.Slices.{found_or}
 use Rattle.login_terms.specs.Questions.{IsNamed, Listens, Opens}
 use Rattle.login_terms.specs.Values.{HostAndPort}
-use Rattle.sshkey_c.specs.Forwarding.{IsPlace}
-use Rattle.sshkey_c.specs.Grants.{anywhere, permit_strings, places, port_bytes}
+use Rattle.sshkey_c.specs.Grants.{IsPlace, anywhere, permit_strings, places, port_bytes}
 
 -- ---- one string at the front
 

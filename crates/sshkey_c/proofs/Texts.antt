@@ -1,7 +1,7 @@
 -- The texts of some parts, one more at a time.
 use Rattle.std.proofs.Common.{◌≡◌, ℕ, ◌+◌, ◌<◌, ◌++◌, List, [], ◌∷◌, ap, get_or, length, map, sym, take, ◌∙◌}
 use Rattle.std.proofs.lemmas.List.{map-append, take_more}
-use Rattle.publickey_login.specs.Logins as logins
+use Rattle.publickey_login.specs.Sources as logins
 use Rattle.publickey_login.specs.Values.{text_of}
 use Rattle.publickey_login.specs.declared.trusted.Text.{Text}
 use Rattle.sshkey_c.specs.Logins.{text_in, texts_in}

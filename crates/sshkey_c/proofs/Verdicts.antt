@@ -1,25 +1,28 @@
 -- What is told of a login that is pending, or is not.
-use Rattle.std.proofs.Common.{◌≡◌, ◌≢◌, ◌<◌, ◌++◌, ℕ, List, Option, None, Some, Result, Ok, Err, Vec, IfErr, ap, arith, drop, inl, inr, length, option_map, refl, subst, sym, ◌∙◌}
+use Rattle.std.proofs.Common.{◌≡◌, ◌≢◌, ◌<◌, ◌++◌, ℕ, List, Option, None, Some, Result, Ok, Err, Vec, IfErr, ap, arith, drop, inl, inr, length, option_map, refl, subst, sym, ◌∙◌, ◌≤◌, ◌↔◌, Bool, true, false, IsTrue}
 use Rattle.login_policy.specs.declared.client.Client.{Client}
 use Rattle.publickey_login.specs.Grants.{IsPending}
 use Rattle.publickey_login.specs.Laws.{OneGrant}
-use Rattle.publickey_login.specs.Logins.{Login, client_seen}
+use Rattle.publickey_login.specs.Sources.{Login, client_seen}
 use Rattle.publickey_login.specs.Results.{authority_in, client_in, grant_in}
 use Rattle.publickey_login.specs.Signatures.{Signed}
 use Rattle.publickey_login.specs.declared.grant.PublickeyGrant.{PublickeyGrant}
 use Rattle.publickey_login.specs.declared.pending_login.Pending.{Pending}
 use Rattle.sshkey_calls.specs.Rooms.{IsLaidOut}
-use Rattle.sshkey_entry_calls.specs.RevocationFiles.{revoked_status}
+use Rattle.sshkey_entry_calls.specs.Revocations.{revoked_status}
 use Rattle.sshkey_model.specs.Verification.{Question}
 use Rattle.sshkey_c.proofs.Asked.{unmapped}
 use Rattle.sshkey_c.specs.Grants.{ArePlaced, Gives, grant_bytes, no_grant}
 use Rattle.sshkey_c.specs.Logins.{AreTexts, IsClientOf, IsSaidOf, Pends, Reading, login_of}
 use Rattle.sshkey_c.specs.Refusals.{said}
-use Rattle.sshkey_c.specs.Verdicts.{AnswersPended, AreAnswered, AreLeft, Decides, DecidesLogIn, DecidesOffer, IsAsked, IsKeptOut, IsLetIn, IsWhyUnraised, Judges, JudgesLogIn, Tells, TellsQuestions, reason_in}
+use Rattle.sshkey_c.specs.Verdicts.{AnswersPended, AreAnswered, AreLeft, Decides, DecidesLogIn, DecidesOffer, IsAsked, IsKeptOut, IsLetIn, IsWhyUnraised, Judges, JudgesLogIn, Tells, TellsQuestions, reason_in, TellsLine}
 use Rattle.sshkey_c.specs.declared.grant.GrantParts.{GrantParts}
 use Rattle.sshkey_c.specs.declared.login.LoginParts.{LoginParts}
 use Rattle.sshkey_c.specs.declared.questions.LoginQuestions.{LoginQuestions}
 use Rattle.sshkey_c.specs.declared.refusal.Refusal.{Refusal}
+use Rattle.sshkey_model.specs.Keys.{Key}
+use Rattle.user_keys.specs.Lines.{IsPassedOver}
+use Rattle.user_keys.specs.Spellings.{MaySpell, own_part}
 
 pub said_so : (l : LoginParts) (d : Refusal) (One Other : Reading → Type 0) → ((r : Reading) → One r → Other r) → IsSaidOf l d One → IsSaidOf l d Other
 said_so l d One Other so (inl text) = inl text
@@ -160,3 +163,17 @@ module _ (l : LoginParts) (s : Signed) (seen : Client → Client) (ticket : List
   not_offered d high other judged =
       let (c, there, out) = judged other in
       (c, there, said_so l d _ _ (λ r kept. record { given = λ zero_. absurd (omega (arith, high, zero_)); kept_out = λ _. kept }) out)
+
+-- What is told of a line.
+
+module _ (k : Key) (line : List ℕ) where
+  -- 1 is memory
+  pub no_memory : TellsLine k line 1
+  no_memory = record { may = λ none. absurd (omega (arith, none)); passed = λ three. absurd (omega (arith, three)); none = λ three. absurd (omega (arith, three)); others = λ some. absurd (some refl) }
+
+  module _ (b : Bool) (spelled : 17 ≤ length (own_part k) → IsTrue b ↔ MaySpell (own_part k) line) where
+    pub it_may : b ≡ true → TellsLine k line 0
+    it_may said = record { may = λ _ long. (spelled long).0 said; passed = λ three. absurd (omega (arith, three)); none = λ three. absurd (omega (arith, three)); others = λ _. inl refl }
+
+    pub is_passed : b ≡ false → IsPassedOver k line → TellsLine k line 3
+    is_passed off passed = record { may = λ none. absurd (omega (arith, none)); passed = λ _. passed; none = λ _ long may. cc (sym off ∙ (spelled long).1 may); others = λ _. inr refl }

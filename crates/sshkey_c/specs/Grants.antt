@@ -1,15 +1,15 @@
 -- What a login by public key is granted (PROTOCOL.certkeys; sshd(8), "AUTHORIZED_KEYS FILE FORMAT").
-use Rattle.std.specs.Prelude.{◌≡◌, ◌⊎◌, ◌<◌, ℕ, ◌+◌, ◌-◌, ◌^◌, List, [], ◌∷◌, ◌++◌, drop, length, replicate, Bool, true, false, not, ◌&&◌, is_some, Option, Some, None, codes, string_bytes, if◌then◌else◌}
+use Rattle.std.specs.Prelude.{◌≡◌, ◌⊎◌, ◌<◌, ℕ, ◌+◌, ◌-◌, ◌^◌, List, [], ◌∷◌, ◌++◌, drop, length, replicate, Bool, true, false, not, ◌&&◌, is_some, Option, Some, None, codes, string_bytes, if◌then◌else◌, ◌==◌}
 use Rattle.std.specs.Int.{to_be_bytes, w16}
-use Rattle.login_terms.specs.Terms.{Terms, terms_of}
+use Rattle.login_terms.specs.Options.{Terms, terms_of}
 use Rattle.login_terms.specs.Values.{HostAndPort}
-use Rattle.sshkey_calls.specs.Rooms.{IsPlaced}
+use Rattle.sshkey_calls.specs.Rooms.{IsPlaced, IsPartOf, bytes_of}
 use Rattle.sshkey_calls.specs.declared.part.Part.{Part}
 use Rattle.sshkey_entry_calls.specs.declared.times.TimeSpan.{TimeSpan}
 use Rattle.sshkey_fingerprints.specs.Fingerprints.{digest_of, fingerprint_hash}
 use Rattle.sshkey_model.specs.Names.{Sha256}
-use Rattle.sshkey_model.specs.Parts.{flat}
-use Rattle.sshkey_model.specs.Texts.{string}
+use Rattle.sshkey_model.specs.Parts.{flat, Fits}
+use Rattle.sshkey_model.specs.Texts.{string, IsText}
 use Rattle.sshkey_matching.specs.declared.times.Span.{Span}
 use Rattle.user_keys.specs.declared.grant.Certified.{Certified}
 use Rattle.user_keys.specs.declared.grant.UserGrant.{UserGrant}
@@ -17,6 +17,11 @@ use Rattle.publickey_login.specs.declared.grant.PublickeyGrant.{PublickeyGrant}
 use Rattle.sshkey_c.specs.Refusals.{said, source_number, text_number}
 use Rattle.sshkey_c.specs.declared.grant.GrantParts.{GrantParts}
 use Rattle.sshkey_c.specs.declared.refusal.Refusal.{Refusal}
+use Rattle.std.specs.List.{AllByRecursion}
+use Rattle.login_terms.specs.Questions.{Listens, Opens}
+use Rattle.sshkey_c.specs.declared.forwarding.Way.{Way}
+use Rattle.sshkey_c.specs.declared.forwarding.Way.TheVariants as way
+use denote.Ref.{Bor}
 
 -- ---- what is permitted
 
@@ -169,3 +174,53 @@ AddsPart bytes part before after = (after ≡ before ++ bytes) × IsPlaced (leng
 -- short for it, and that is answered, with 2.
 abbrev pub Gives : {G : Type 0} → List ℕ → G → G → ℕ → G → List ℕ → List ℕ → Type 0
 Gives content grant short n answer before after = ((n ≡ 0) × (answer ≡ grant) × (after ≡ content ++ drop (length content) before)) ⊎ ((n ≡ 2) × (answer ≡ short) × (after ≡ before) × (length before < length content))
+
+-- What a server asks once the client is let in, where the grant stands in its room (RFC 4254,
+-- section 7).
+
+-- ---- the places that a part of the room has
+
+-- two bytes write the port
+abbrev pub IsWord : Option ℕ → Type 0
+IsWord None = Unit {0}
+IsWord (Some port) = port < 65536
+
+-- The host is a text that can stand in a string, and the port one of two bytes, or any.
+abbrev pub IsPlace : HostAndPort → Type 0
+IsPlace p = IsText p.host × Fits (string p.host) × IsWord p.port
+
+-- The part of the room has these hosts and ports, and no others.
+pub record HasPlaces (places : List HostAndPort) (part : Part) (room : List ℕ) : Type 0 where
+  pub each : AllByRecursion IsPlace places
+  pub within : IsPartOf part room
+  pub bytes : bytes_of part room ≡ permit_strings places
+
+-- ---- what is asked
+
+-- the place stands for the host and the port that the client asks for
+abbrev pub IsFor : Way → List ℕ → ℕ → HostAndPort → Type 0
+IsFor way.Open host port p = Opens p.host p.port host port
+IsFor way.Listen host port p = Listens p.host p.port host port
+
+-- ---- how they are found
+
+-- this host and port, and then the rest
+abbrev pub IsPlaceThen : HostAndPort → List ℕ → Option (Bor (List ℕ) × Option ℕ × Bor (List ℕ)) → Type 0
+IsPlaceThen p more None = ⊥
+IsPlaceThen p more (Some found) = (p.host ≡ found.0.now) × (p.port ≡ found.1) × (more ≡ found.2.now)
+
+-- What is found, if a place and then the rest are all the bytes.
+abbrev pub BeginsWithPlace : HostAndPort → List ℕ → List ℕ → Option (Bor (List ℕ) × Option ℕ × Bor (List ℕ)) → Type 0
+BeginsWithPlace p more bytes found = bytes ≡ flat (string p.host) ++ (flat (string (port_bytes p.port)) ++ more) → IsPlaceThen p more found
+
+-- What runs once the client is let in, where the grant stands in its room (RFC 4254, section 6.5).
+
+-- a command, or a shell by 0
+abbrev pub asked_for : ℕ → List ℕ → Option (List ℕ)
+asked_for asks_command asked = if asks_command == 0 then None else Some asked
+
+-- The grant says whether the terms have a command, which the room has then.
+pub record HasCommand (t : Terms) (grant : GrantParts) (room : List ℕ) : Type 0 where
+  pub permits : grant.permits ≡ permits_of t
+  pub within : IsPartOf grant.force_command room
+  pub bytes : bytes_of grant.force_command room ≡ or_empty t.command

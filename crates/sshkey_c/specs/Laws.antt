@@ -1,10 +1,9 @@
 -- What holds of every grant that is written.
 use Rattle.std.specs.Prelude.{ℕ, List}
-use Rattle.login_terms.specs.Terms.{terms_of}
+use Rattle.login_terms.specs.Options.{terms_of}
 use Rattle.publickey_login.specs.declared.grant.PublickeyGrant.{PublickeyGrant}
 use Rattle.sshkey_calls.specs.Rooms.{IsAtFront}
-use Rattle.sshkey_c.specs.Grants.{ArePlaced, grant_bytes}
-use Rattle.sshkey_c.specs.Running.{HasCommand}
+use Rattle.sshkey_c.specs.Grants.{ArePlaced, grant_bytes, HasCommand}
 use Rattle.sshkey_c.specs.declared.grant.GrantParts.{GrantParts}
 
 -- Whatever follows it in the room, the command that is forced is where the answer says.

@@ -1,12 +1,6 @@
-pub mod Asked
-pub mod Forwarding
-pub mod GrantExamples
-pub mod Grants
-pub mod Laws
-pub mod Lines
-pub mod LoginExamples
-pub mod Logins
-pub mod RefusalExamples
-pub mod Refusals
-pub mod Running
 pub mod Verdicts
+pub mod Grants
+pub mod Examples
+pub mod Laws
+pub mod Logins
+pub mod Refusals

@@ -5,7 +5,7 @@ use Rattle.std.specs.declared.net.ip_addr.IpAddr.{IpAddr}
 use Rattle.login_policy.specs.declared.client.Client.{Client}
 use Rattle.login_policy.specs.declared.client.Client.TheVariants as client
 use Rattle.publickey_login.specs.Grants.{IsPending}
-use Rattle.publickey_login.specs.Logins.{Files, InCertificate, Login, Principals, Read, Text, Trusted, Unreadable, client_seen}
+use Rattle.publickey_login.specs.Sources.{Files, InCertificate, Login, Principals, Read, Text, Trusted, Unreadable, client_seen}
 use Rattle.publickey_login.specs.Results.{authority_in, client_in, grant_in}
 use Rattle.publickey_login.specs.Signatures.{BySshd, ByTransport, Offer, Request, Signed}
 use Rattle.publickey_login.specs.Stops.{IsWhyNotPending}
@@ -16,7 +16,7 @@ use Rattle.publickey_login.specs.declared.refusal.PublickeyRefusal.{PublickeyRef
 use Rattle.sshkey_base.specs.declared.error.Error.{Error}
 use Rattle.sshkey_calls.specs.Validations.{authorities_of}
 use Rattle.sshkey_entry_calls.specs.Addresses.{IsAddressOf, IsNameIn}
-use Rattle.sshkey_entry_calls.specs.RevocationFiles.{AreReadOf, one_revokes, one_revokes_key, revoked_status}
+use Rattle.sshkey_entry_calls.specs.Revocations.{AreReadOf, one_revokes, one_revokes_key, revoked_status}
 use Rattle.sshkey_model.specs.Verification.{Question}
 use Rattle.sshkey_revoked_keys.specs.declared.revoked_keys.RevokedKeys.{RevokedKeys}
 use Rattle.sshkey_userauth.specs.declared.judgement.Requirements.{Requirements}

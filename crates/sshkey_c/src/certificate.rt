@@ -5,9 +5,9 @@ ghost use Rattle.std.specs.Str.{IsUtf8};
 ghost use Rattle.sshkey_model.specs.Certificates.{certificate_at};
 ghost use Rattle.sshkey_model.specs.Reading.{Fault, whole};
 ghost use Rattle.sshkey_model.specs.Verification.{Question as TheQuestion};
-ghost use Rattle.sshkey_calls.specs.Fields.{GivesFields};
+ghost use Rattle.sshkey_calls.specs.Certificates.{GivesFields};
 ghost use Rattle.sshkey_calls.specs.Numbers.{fault_number};
-ghost use Rattle.sshkey_calls.specs.Questions.{TellsCertificateQuestion};
+ghost use Rattle.sshkey_calls.specs.Signatures.{TellsCertificateQuestion};
 ghost use Rattle.sshkey_calls.specs.Validations.{HasRenamedAuthority, IsGoodCertificate, IsGoodCertificateFor, SaysWhether, TellsFirst, TellsFirstFor, Verified, authorities_of};
 
 use sshkey_calls::fields::fields_of;

@@ -2,7 +2,7 @@
 
 ghost use Rattle.std.specs.Prelude.{◌≡◌, ◌≢◌};
 ghost use Rattle.std.specs.Str.{IsUtf8};
-ghost use Rattle.sshkey_entry_calls.specs.Answers.{BeginsHost, TellsDestination};
+ghost use Rattle.sshkey_entry_calls.specs.Destinations.{BeginsHost, TellsDestination};
 
 use sshkey_calls::Part;
 use sshkey_calls::number::{DONE, FORMAT, TEXT};

@@ -2,11 +2,10 @@
 
 ghost use Rattle.std.specs.Prelude.{◌≡◌, ◌≢◌};
 ghost use Rattle.std.specs.Str.{IsUtf8};
-ghost use Rattle.sshkey_authorized_keys.specs.OpenSshFaults as keys;
+ghost use Rattle.sshkey_authorized_keys.specs.OpenSshEntries as keys;
 ghost use Rattle.sshkey_entries.specs.OpenSshLines.{IsAuthorizedLine, IsHostLine};
-ghost use Rattle.sshkey_known_hosts.specs.OpenSshHosts as hosts;
-ghost use Rattle.sshkey_entry_calls.specs.Entries.{FindsEntry, NeedsAuthorizedEntry, TellsFault, of_authorized_key, of_known_host};
-ghost use Rattle.sshkey_entry_calls.specs.Lines.{FindsLine};
+ghost use Rattle.sshkey_known_hosts.specs.HostEntries as hosts;
+ghost use Rattle.sshkey_entry_calls.specs.Entries.{FindsEntry, NeedsAuthorizedEntry, TellsFault, of_authorized_key, of_known_host, FindsLine};
 ghost use Rattle.sshkey_entry_calls.specs.Options.{FindsKeyOption};
 
 use sshkey_calls::number::{DONE, END, TEXT};

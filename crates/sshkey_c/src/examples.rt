@@ -1,8 +1,6 @@
 //! Worked examples of the definitions.
 
-ghost use Rattle.sshkey_c.specs.GrantExamples.{Bounds, Forced, LaidOut, Permitted, Placed};
-ghost use Rattle.sshkey_c.specs.LoginExamples.{Answered, Seen, Tickets, Told};
-ghost use Rattle.sshkey_c.specs.RefusalExamples.{ByKeys, ByLines, BySignatures};
+ghost use Rattle.sshkey_c.specs.Examples.{Bounds, Forced, LaidOut, Permitted, Placed, Answered, Seen, Tickets, Told, ByKeys, ByLines, BySignatures};
 
 /// What the terms of a login permit.
 pub fn permitted()

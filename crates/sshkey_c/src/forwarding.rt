@@ -4,11 +4,10 @@ ghost use Rattle.std.specs.Prelude.{◌≡◌, ◌≢◌, ◌⊎◌, ◌↔◌, 
 ghost use Rattle.std.specs.List.{AllByRecursion, Any};
 ghost use Rattle.std.specs.Str.{IsUtf8};
 ghost use Rattle.login_terms.specs.Questions.{MayListen, MayOpen};
-ghost use Rattle.login_terms.specs.Terms.{Terms};
+ghost use Rattle.login_terms.specs.Options.{Terms};
 ghost use Rattle.login_terms.specs.Values.{HostAndPort};
 ghost use Rattle.sshkey_calls.specs.Rooms.{IsPartOf, bytes_of};
-ghost use Rattle.sshkey_c.specs.Forwarding.{BeginsWithPlace, HasPlaces, IsFor, IsPlace, IsWord};
-ghost use Rattle.sshkey_c.specs.Grants.{permit_strings, port_bytes, to_listen, to_open};
+ghost use Rattle.sshkey_c.specs.Grants.{BeginsWithPlace, HasPlaces, IsFor, IsPlace, IsWord, permit_strings, port_bytes, to_listen, to_open};
 
 use crate::grant::GrantParts;
 use login_terms::{listens, opens};

@@ -1,7 +1,7 @@
 //! What a login is let in by, and what it may do.
 
 ghost use Rattle.std.specs.Prelude.{◌≡◌, ◌++◌, ◌≤◌, IfOk, map, string_bytes};
-ghost use Rattle.login_terms.specs.Terms.{terms_of};
+ghost use Rattle.login_terms.specs.Options.{terms_of};
 ghost use Rattle.login_terms.specs.Values.{permit_of};
 ghost use Rattle.sshkey_calls.specs.Rooms.{IsLaidOut};
 ghost use Rattle.sshkey_fingerprints.specs.Fingerprints.{digest_of, fingerprint_hash};

@@ -6,7 +6,7 @@
 
 ghost use Rattle.std.specs.Prelude.{◌≡◌, ◌≢◌, ◌≤◌, ◌<◌, length, take, false, true};
 ghost use Rattle.std.specs.Str.Lines.{lines};
-ghost use Rattle.sshkey_known_hosts.specs.LinePlaces.{ArePlacesOf, total_length};
+ghost use Rattle.sshkey_known_hosts.specs.HeldLines.{ArePlacesOf, total_length};
 ghost use Rattle.sshkey_entry_calls.specs.Hosts.{TellsHostCertificate, TellsHostKey, are_texts, held_lines, own_lines};
 
 use sshkey_calls::GivenAnswer;

@@ -2,12 +2,12 @@
 
 ghost use Rattle.std.specs.Prelude.{◌≡◌, ◌≢◌, ◌<◌, ◌⊎◌, length, true};
 ghost use Rattle.std.specs.Str.{IsUtf8};
-ghost use Rattle.sshkey_matching.specs.Likeness.{is_like_address};
+ghost use Rattle.sshkey_matching.specs.FromLists.{is_like_address};
 ghost use Rattle.sshkey_entries.specs.Fields.{filled_lines, without_blanks};
 ghost use Rattle.sshkey_entries.specs.OtherKeys.{AreOtherKeyFields};
 ghost use Rattle.sshkey_calls.specs.KeyLines.{HoldsContent, NeedsLine, ReadsContent, TellsLineFault};
 ghost use Rattle.sshkey_entry_calls.specs.LaterKinds.{NamesLaterKind};
-ghost use Rattle.sshkey_entry_calls.specs.UnreadableLines.{TellsUnreadableLine};
+ghost use Rattle.sshkey_entry_calls.specs.Hosts.{TellsUnreadableLine};
 
 use sshkey_calls::Line;
 use sshkey_calls::line::read_text;

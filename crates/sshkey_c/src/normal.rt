@@ -1,8 +1,8 @@
 //! Normal forms.
 
 ghost use Rattle.std.specs.Prelude.{◌≡◌, ◌≢◌};
-ghost use Rattle.sshkey_calls.specs.NormalForms.{IsRenamedKey, WritesNormalCertificate, WritesNormalKey, WritesNormalSignature};
-ghost use Rattle.sshkey_calls.specs.SshSignatures.{WritesNormalSshSignature};
+ghost use Rattle.sshkey_calls.specs.Writing.{IsRenamedKey, WritesNormalCertificate, WritesNormalKey, WritesNormalSignature};
+ghost use Rattle.sshkey_calls.specs.Signatures.{WritesNormalSshSignature};
 
 use sshkey_calls::normal::{write_certificate, write_encoded, write_key};
 use sshkey_calls::number::error_status;

@@ -1,8 +1,7 @@
 //! What a certificate lists, and where it stands.
 
-ghost use Rattle.sshkey_calls.specs.Lists.{GivesParts};
-ghost use Rattle.sshkey_calls.specs.NormalForms.{WritesCertifiedKey};
-ghost use Rattle.sshkey_calls.specs.Options.{FindsOption};
+ghost use Rattle.sshkey_calls.specs.Certificates.{GivesParts, FindsOption};
+ghost use Rattle.sshkey_calls.specs.Writing.{WritesCertifiedKey};
 
 use sshkey_calls::certified_key::write_key;
 use sshkey_calls::lists::parts_of;

@@ -6,7 +6,7 @@ ghost use Rattle.sshkey_keys.specs.Questions.{asks};
 ghost use Rattle.sshkey_model.specs.Fingerprints.{digest};
 ghost use Rattle.sshkey_model.specs.Names as names;
 ghost use Rattle.publickey_login.specs.Results.{authority_in, client_in};
-ghost use Rattle.sshkey_c.specs.Asked.{AddsAsked, IsUnraised, LaysOutQuestions, head};
+ghost use Rattle.sshkey_c.specs.Verdicts.{AddsAsked, IsUnraised, LaysOutQuestions, head};
 ghost use Rattle.sshkey_c.specs.Refusals.{said};
 
 use crate::grant::bit;

@@ -6,11 +6,10 @@ ghost use Rattle.sshkey_model.specs.Keys.{key_data_at};
 ghost use Rattle.sshkey_krl.specs.Krls.{SpellsKrl, krl_format};
 ghost use Rattle.sshkey_model.specs.Certificates.{certificate_at, SpellsCertificate};
 ghost use Rattle.sshkey_model.specs.Reading.{Fault, whole};
-ghost use Rattle.sshkey_calls.specs.NormalForms.{IsRenamedKey};
+ghost use Rattle.sshkey_calls.specs.Writing.{IsRenamedKey};
 ghost use Rattle.sshkey_calls.specs.Numbers.{fault_number};
 ghost use Rattle.sshkey_calls.specs.Revocations.{IsWhetherCertificateRevoked, IsWhetherKeyRevoked, TellsRevoked};
-ghost use Rattle.sshkey_entry_calls.specs.RevocationFiles.{NeedsFiles};
-ghost use Rattle.sshkey_entry_calls.specs.Revocations.{TellsRevokedCertificate, TellsRevokedKey};
+ghost use Rattle.sshkey_entry_calls.specs.Revocations.{NeedsFiles, TellsRevokedCertificate, TellsRevokedKey};
 
 use sshkey_calls::number::{DONE, MEMORY, REVOKED, UNREADABLE_REVOCATIONS, error_status};
 use sshkey_calls::revocation::{is_certificate_revoked, is_key_revoked};

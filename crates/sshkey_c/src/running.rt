@@ -2,10 +2,10 @@
 
 ghost use Rattle.std.specs.Prelude.{◌≡◌, ◌⊎◌, [], Some, bit_and, option_map};
 ghost use Rattle.login_terms.specs.Questions.{runs};
-ghost use Rattle.login_terms.specs.Terms.{Terms};
+ghost use Rattle.login_terms.specs.Options.{Terms};
 ghost use Rattle.sshkey_calls.specs.Rooms.{IsPartOf};
 ghost use Rattle.sshkey_calls.specs.Writing.{WritesContent};
-ghost use Rattle.sshkey_c.specs.Running.{HasCommand, asked_for};
+ghost use Rattle.sshkey_c.specs.Grants.{HasCommand, asked_for};
 
 use crate::forwarding::bytes_in;
 use crate::grant::{ANY_COMMAND, GrantParts};

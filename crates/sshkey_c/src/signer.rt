@@ -7,8 +7,7 @@ ghost use Rattle.sshkey_model.specs.Reading.{Fault, whole};
 ghost use Rattle.sshkey_sshsig.specs.SshSignatureReaders.{ssh_signature_value_at};
 ghost use Rattle.sshkey_calls.specs.Numbers.{fault_number};
 ghost use Rattle.sshkey_calls.specs.Validations.{authorities_of};
-ghost use Rattle.sshkey_entry_calls.specs.Signers.{TellsSigner};
-ghost use Rattle.sshkey_entry_calls.specs.SshSignatures.{TellsByKeys};
+ghost use Rattle.sshkey_entry_calls.specs.SshSignatures.{TellsSigner, TellsByKeys};
 
 use sshkey_calls::laws::one_outcome;
 use sshkey_calls::number::{TEXT, error_status};

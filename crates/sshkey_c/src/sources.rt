@@ -4,7 +4,7 @@ ghost use Rattle.std.specs.Prelude.{◌≡◌, IfOk, MatchOption, map};
 ghost use Rattle.publickey_login.specs.Values.{principals_of, text_of};
 ghost use Rattle.sshkey_calls.specs.Validations.{authorities_of};
 ghost use Rattle.sshkey_cert.specs.Validity.{fingerprints_of};
-ghost use Rattle.sshkey_entry_calls.specs.RevocationFiles.{AreReadOf, reads_of};
+ghost use Rattle.sshkey_entry_calls.specs.Revocations.{AreReadOf, reads_of};
 ghost use Rattle.sshkey_c.specs.Logins.{principals_from, text_in, texts_in};
 
 use crate::login::{TextParts, TrustedParts};

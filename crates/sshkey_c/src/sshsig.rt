@@ -1,6 +1,6 @@
 //! What has to be verified of an SSH signature.
 
-ghost use Rattle.sshkey_calls.specs.SshSignatures.{TellsSshsigQuestion, TellsSshsigQuestionOfDigest};
+ghost use Rattle.sshkey_calls.specs.Signatures.{TellsSshsigQuestion, TellsSshsigQuestionOfDigest};
 
 use sshkey_calls::sshsig::{ask, ask_of_digest, find_signature};
 use sshkey_calls::{Question, Sha256Digest};

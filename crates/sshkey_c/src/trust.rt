@@ -5,11 +5,10 @@ ghost use Rattle.std.specs.Prelude.{◌≡◌};
 ghost use Rattle.sshkey_model.specs.Keys.{SpellsKey, key_data_at};
 ghost use Rattle.sshkey_model.specs.Certificates.{certificate_at, SpellsCertificate};
 ghost use Rattle.sshkey_keys.specs.Keys.{key_of};
-ghost use Rattle.sshkey_calls.specs.Outcomes.{TellsOf};
+ghost use Rattle.sshkey_calls.specs.Rooms.{TellsOf};
 ghost use Rattle.sshkey_entry_calls.specs.Authorities.{TellsAuthority, TellsUserAuthority};
-ghost use Rattle.sshkey_entry_calls.specs.Modes.{is_own, mode_number};
-ghost use Rattle.sshkey_entry_calls.specs.Verifiers.{verifier_number};
-ghost use Rattle.sshkey_c.specs.Lines.{TellsLine};
+ghost use Rattle.sshkey_entry_calls.specs.Trust.{is_own, mode_number, verifier_number};
+ghost use Rattle.sshkey_c.specs.Verdicts.{TellsLine};
 
 use sshkey_calls::Sha256Digest;
 use sshkey_calls::number::{DONE, END, MEMORY, TEXT, error_status};

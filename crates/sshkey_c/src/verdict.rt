@@ -1,7 +1,7 @@
 //! Who logs in by public key, given what the caller's verification said.
 
 ghost use Rattle.std.specs.Prelude.{◌≡◌, ◌≢◌, ◌<◌, IfErr};
-ghost use Rattle.publickey_login.specs.Logins.{client_known};
+ghost use Rattle.publickey_login.specs.Sources.{client_known};
 ghost use Rattle.publickey_login.specs.Results.{authority_in, client_in, grant_in};
 ghost use Rattle.sshkey_c.specs.Grants.{IsRefused};
 ghost use Rattle.sshkey_c.specs.Verdicts.{AnswersPended, Decides, Judges, JudgesLogIn, TellsLogIn, TellsLogInQuestions, TellsOffer, TellsOfferQuestions, answers_in};

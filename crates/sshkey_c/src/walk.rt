@@ -1,6 +1,6 @@
 //! Strings that stand in bytes, one after the other.
 
-ghost use Rattle.sshkey_calls.specs.Strings.{FindsString};
+ghost use Rattle.sshkey_calls.specs.Certificates.{FindsString};
 
 use sshkey_calls::Part;
 use sshkey_calls::number::{DONE, END, LENGTH};

@@ -16,7 +16,7 @@ use Rattle.sshkey_base.specs.Reading.{IsRefused}
 use Rattle.sshkey_base.proofs.Leaves.{texts_grammar}
 use Rattle.sshkey_terms.specs.Slices.{Keeps}
 use Rattle.sshkey_keys.proofs.KeyReaders.{key_grammar}
-use Rattle.sshkey_cert_values.proofs.OptionLists.{options_grammar}
+use Rattle.sshkey_cert_values.proofs.Lawful.{options_grammar}
 use Rattle.sshkey_calls.specs.Drafts.{IsCertifiable, IsWrong, TellsFields, certifiable_number, draft_fault, first_number, key_status, list_number, number_of, parts_fault, string_number, text_number}
 use Rattle.sshkey_calls.specs.Numbers.{fault_number}
 use Rattle.sshkey_calls.proofs.Drafts.{fits_number, short_string}

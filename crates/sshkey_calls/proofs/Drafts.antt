@@ -16,7 +16,7 @@ use Rattle.sshkey_model.specs.Reading.{Fault, Length}
 use Rattle.sshkey_model.specs.Texts.{string, SpellsTexts}
 use Rattle.sshkey_model.proofs.CombinedReaders.{fits_length, wide32}
 use Rattle.sshkey_model.proofs.Grammars.{one_front}
-use Rattle.sshkey_cert_values.proofs.OptionLists.{options_grammar}
+use Rattle.sshkey_cert_values.proofs.Lawful.{options_grammar}
 use Rattle.sshkey_calls.specs.Drafts.{FitsString, IsToBeSigned, IsWrong, TellsFields, string_number}
 use Rattle.sshkey_calls.specs.Numbers.{fault_number}
 use Rattle.sshkey_calls.specs.Writing.{WritesContent}

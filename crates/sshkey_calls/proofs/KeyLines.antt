@@ -7,7 +7,7 @@ use Rattle.sshkey_model.specs.Lines.{IsLine, IsLineOf, IsNoLine, key_name, name_
 use Rattle.sshkey_model.specs.Texts.{IsText}
 use Rattle.sshkey_model.proofs.Blobs.{certificate_blobs, key_blobs}
 use Rattle.sshkey_model.proofs.CombinedReaders.{bytes_fit}
-use Rattle.sshkey_public.specs.LineNeeds.{HasComment, NeedsValue}
+use Rattle.sshkey_public.specs.Lines.{HasComment, NeedsValue}
 use Rattle.sshkey_calls.specs.KeyLines.{ArePlaced, Content, HoldsContent, NeedsLine, ReadsContent, TellsLineFault, content_of, line_bytes}
 use Rattle.sshkey_calls.specs.Rooms.{GivesValue, IsLaidOut}
 use Rattle.sshkey_calls.proofs.Rooms.{give_one, none_given, no_memory as nothing_said}

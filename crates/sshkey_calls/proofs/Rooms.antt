@@ -1,7 +1,45 @@
--- What is answered of a value whose bytes stand in the room, or do not.
-use Rattle.std.proofs.Common.{◌≡◌, ◌≢◌, ℕ, List, length, Bool, true, false, Result, Ok, Err, IfOk, refl, sym, subst, arith, ◌∙◌, ◌<◌, ◌++◌, drop}
+-- Values that are slices, read from bytes.
+use Rattle.std.proofs.Common.{◌≡◌, ◌≢◌, ◌<◌, List, ℕ, Result, Ok, Err, refl, arith, length, Bool, true, false, IfOk, sym, subst, ◌∙◌, ◌++◌, drop, inr}
+use Rattle.sshkey_model.specs.Reading.{Fault, Front, whole}
+use Rattle.sshkey_base.specs.Causes.{Cause, Faulty, NoMemory, Other}
+use Rattle.sshkey_terms.specs.Slices.{Keeps}
 use Rattle.std.specs.Prelude.{Vec}
-use Rattle.sshkey_calls.specs.Rooms.{AnswersWith, Fills, GivesValue, IsLaidOut}
+use Rattle.sshkey_calls.specs.Rooms.{AnswersWith, Fills, GivesValue, IsLaidOut, TellsOf}
+use Rattle.sshkey_calls.specs.Numbers.{fault_number}
+
+module _ {X Y E : Type 0} (bytes_of : X → List ℕ) (cause : E → Cause) (b : List ℕ) (x : X) where
+  -- it keeps them
+  pub kept_bytes : (found : Result Y Fault) → Keeps bytes_of cause found b (Ok x) → bytes_of x ≡ b
+  kept_bytes (Ok y) h = h
+  kept_bytes (Err fault) h = absurd h
+
+  -- and they have no fault
+  pub no_fault : (found : Result Y Fault) (fault : Fault) → found ≡ Err fault → Keeps bytes_of cause found b (Ok x) → ⊥
+  no_fault (Ok y) fault is h = cc is
+  no_fault (Err other) fault is h = h
+
+-- bytes are never refused for memory
+pub not_memory : {X Y E : Type 0} (bytes_of : X → List ℕ) (cause : E → Cause) (b : List ℕ) (found : Result Y Fault) (e : E) → Keeps bytes_of cause found b (Err e) → cause e ≢ NoMemory
+not_memory bytes_of cause b (Ok y) e h = absurd h
+not_memory bytes_of cause b (Err fault) e h = λ memory. cc (memory, h)
+
+-- so the number of their fault is not that of memory
+pub never_memory : {X Y E : Type 0} (bytes_of : X → List ℕ) (cause : E → Cause) (b : List ℕ) (found : Result Y Fault) (e : E) (n : ℕ) → (cause e ≢ NoMemory → (9 < n) × (n < 30)) → Keeps bytes_of cause found b (Err e) → n ≢ 1
+never_memory bytes_of cause b found e n range keeps one =
+    let r = range (not_memory bytes_of cause b found e keeps) in
+    omega (arith, one, r.0)
+
+-- only memory that was refused has the number of memory
+pub only_memory : (of_error : Cause) (n : ℕ) → (of_error ≢ NoMemory → (9 < n) × (n < 30)) → n ≡ 1 → of_error ≡ NoMemory
+only_memory NoMemory n range one = refl
+only_memory (Faulty fault) n range one =
+    let r = range (λ e. cc e) in
+    absurd (omega (arith, one, r.0))
+only_memory Other n range one =
+    let r = range (λ e. cc e) in
+    absurd (omega (arith, one, r.0))
+
+-- What is answered of a value whose bytes stand in the room, or do not.
 
 module _ {X A : Type 0} {bytes : X → List ℕ} {ArePlaced : X → A → Type 0} {needed : A → ℕ} where
   -- The room was filled, or is too short.
@@ -56,3 +94,16 @@ module _ {X A : Type 0} {bytes : X → List ℕ} {ArePlaced : X → A → Type 0
       subst (λ (a : A). GivesValue (λ y. y ≡ x) bytes ArePlaced needed n was a before after) (sym answers.0)
       (filled x it.0.items before after answers.1 n was it.1 is (all it.1 is.1) answers.2 (λ yes_. answers.3 ∙ rw yes_ refl) (λ no_. answers.3 ∙ rw no_ refl))
   answered x (Err e) n was answer before after all is answers = no_memory n was answer before after (answers.1, answers.2) answers.0
+
+-- Bytes that spell no value.
+
+module _ {X W E : Type 0} (bytes_of : X → List ℕ) (cause : E → Cause) (b : List ℕ) (e : E) (n : ℕ) (number : (fault : Fault) → cause e ≡ Faulty fault → n ≡ fault_number fault) where
+  fault_of : (found : Result W Fault) → Keeps bytes_of cause found b (Err e) → (fault : Fault) × (found ≡ Err fault) × (n ≡ fault_number fault)
+  fault_of (Ok y) keeps = absurd keeps
+  fault_of (Err fault) keeps = (fault, refl, number fault keeps)
+
+  -- the number of their fault is told
+  pub refused : {V : Type 0} {Told : V → Type 0} {Stays : Type 0} (Spells : V → List ℕ → Type 0) (read : Front W) → Keeps bytes_of cause (whole read b) b (Err e) → Stays → TellsOf Spells read b Told n Stays
+  refused Spells read keeps stays =
+      let met = fault_of (whole read b) keeps in
+      inr (met.0, met.1, met.2, stays)

@@ -15,11 +15,11 @@ use Rattle.sshkey_model.specs.Verification as model
 use Rattle.sshkey_model.proofs.Grammars.{one_front}
 use Rattle.sshkey_model.proofs.Refusals.{none_where_valid, none_where_wanted}
 use Rattle.sshkey_base.specs.Acceptance.{SpellsSome}
-use Rattle.sshkey_cert.proofs.CertificateReaders.{certificate_grammar}
-use Rattle.sshkey_cert.specs.Questions.{certificate_question}
+use Rattle.sshkey_cert.proofs.Certificates.{certificate_grammar}
+use Rattle.sshkey_cert.specs.Validity.{certificate_question}
 use Rattle.sshkey_cert_ref.specs.CertificateRef.{certificate_bytes, certificate_of, choices_of}
 use Rattle.sshkey_cert_ref.specs.declared.certificate_ref.CertificateRef.{CertificateRef}
-use Rattle.sshkey_cert_ref.proofs.Answered.{allows_is}
+use Rattle.sshkey_cert_ref.proofs.Answers.{allows_is}
 use Rattle.sshkey_cert_ref.proofs.Certificates.{spelled_by}
 use Rattle.sshkey_fingerprints.specs.Fingerprints.{digest_of}
 use Rattle.sshkey_fingerprints.specs.declared.fingerprint.Fingerprint as code

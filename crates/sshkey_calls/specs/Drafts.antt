@@ -7,9 +7,8 @@ use Rattle.sshkey_model.specs.Keys.{Key, Dsa, Ecdsa, Ed25519, Rsa, SkEcdsa, SkEd
 use Rattle.sshkey_model.specs.Parts.{Fits, flat}
 use Rattle.sshkey_model.specs.Reading.{Fault, Front, whole}
 use Rattle.sshkey_model.specs.Texts.{string, texts_at, IsText, SpellsTexts}
-use Rattle.sshkey_cert_values.specs.CertTypes.{type_of}
+use Rattle.sshkey_cert_values.specs.CertificateFields.{type_of, end_of, time_of}
 use Rattle.sshkey_model.specs.Options.{SpellsOptions, options_value_at}
-use Rattle.sshkey_cert_values.specs.Times.{end_of, time_of}
 use Rattle.sshkey_cert_values.specs.declared.cert_type.CertType.{CertType}
 use Rattle.sshkey_cert_values.specs.declared.end_time.EndTime.{EndTime}
 use Rattle.sshkey_cert_values.specs.declared.unix_time.UnixTime.{UnixTime}

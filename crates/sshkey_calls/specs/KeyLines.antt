@@ -3,8 +3,7 @@ use Rattle.std.specs.Prelude.{◌≡◌, ◌≢◌, ◌⊎◌, ℕ, ◌<◌, ◌
 use Rattle.sshkey_base.specs.declared.error.Error.{Error}
 use Rattle.sshkey_model.specs.Lines.{IsLine, key_name, name_of_certificate}
 use Rattle.sshkey_model.specs.Keys.{key_format, SpellsKey}
-use Rattle.sshkey_public.specs.LineFaults.{HasFaultOfLine}
-use Rattle.sshkey_public.specs.LineNeeds.{NeedsValue}
+use Rattle.sshkey_public.specs.Lines.{HasFaultOfLine, NeedsValue}
 use Rattle.sshkey_model.specs.Certificates.{certificate_format, SpellsCertificate}
 use Rattle.sshkey_calls.specs.Numbers.{error_status}
 use Rattle.sshkey_calls.specs.Rooms.{GivesValue, IsPlaced}

@@ -9,8 +9,7 @@ use Rattle.sshkey_model.specs.Refusals.{Refusal, first_refusal, first_refusal_fo
 use Rattle.sshkey_model.specs.Validity.{IsValid}
 use Rattle.sshkey_model.specs.Verification.{Question}
 use Rattle.sshkey_base.specs.declared.error.Error.{Error}
-use Rattle.sshkey_cert.specs.Questions.{certificate_question}
-use Rattle.sshkey_cert.specs.Validity.{refusal_of}
+use Rattle.sshkey_cert.specs.Validity.{certificate_question, refusal_of}
 use Rattle.sshkey_cert.specs.declared.certificate.refusal.CertificateRefusal.{CertificateRefusal}
 use Rattle.sshkey_calls.specs.Numbers.{refusal_status}
 use Rattle.sshkey_calls.specs.declared.digest.Sha256Digest.{Sha256Digest}

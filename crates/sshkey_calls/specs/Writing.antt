@@ -1,12 +1,14 @@
 -- What is answered of bytes that are written to a room.
-use Rattle.std.specs.Prelude.{◌≡◌, ◌⊎◌, ℕ, List, ◌++◌, length, take}
+use Rattle.std.specs.Prelude.{◌≡◌, ◌⊎◌, ℕ, List, ◌++◌, length, take, ◌≢◌}
 use Rattle.sshkey_base.specs.declared.encoding.Error.TheVariants.{Length}
 use Rattle.sshkey_base.specs.declared.error.Error.{Error}
 use Rattle.sshkey_base.specs.declared.error.Error.TheVariants.{Encoding, Memory}
-use Rattle.sshkey_model.specs.Parts.{BoxesFit, Parts}
+use Rattle.sshkey_model.specs.Parts.{BoxesFit, Parts, flat}
 use Rattle.sshkey_model.specs.Reading.{Front}
-use Rattle.sshkey_calls.specs.Outcomes.{TellsOf}
-use Rattle.sshkey_calls.specs.Rooms.{GivesValue}
+use Rattle.sshkey_calls.specs.Rooms.{TellsOf, GivesValue}
+use Rattle.sshkey_model.specs.Certificates.{certificate_at, normal_certificate, SpellsCertificate}
+use Rattle.sshkey_model.specs.Keys.{Key, normal_key, SpellsKey, key_data_at}
+use Rattle.sshkey_model.specs.Signatures.{signature, signature_at, SpellsSignature}
 
 -- What a call answers that writes the one content that `Wanted` tells, and how many bytes it has.
 abbrev pub WritesContent : (List ℕ → Type 0) → ℕ → ℕ → ℕ → List ℕ → List ℕ → Type 0
@@ -30,3 +32,25 @@ IsNotAdded p e = ((BoxesFit p → ⊥) × (e ≡ Encoding Length)) ⊎ (e ≡ Me
 -- A beginning of the bytes, perhaps none of them, follows what stood before.
 abbrev pub AddsBeginning : List ℕ → List ℕ → List ℕ → Type 0
 AddsBeginning before bytes after = (count : ℕ) × (after ≡ before ++ take count bytes)
+
+-- What is answered of a normal form.
+
+-- that of the key that the bytes spell
+abbrev pub WritesNormalKey : List ℕ → ℕ → ℕ → ℕ → List ℕ → List ℕ → Type 0
+WritesNormalKey = WritesOf SpellsKey key_data_at (λ k. flat (normal_key k))
+
+-- of the certificate
+abbrev pub WritesNormalCertificate : List ℕ → ℕ → ℕ → ℕ → List ℕ → List ℕ → Type 0
+WritesNormalCertificate = WritesOf SpellsCertificate certificate_at (λ c. flat (normal_certificate c))
+
+-- of the key that it certifies
+abbrev pub WritesCertifiedKey : List ℕ → ℕ → ℕ → ℕ → List ℕ → List ℕ → Type 0
+WritesCertifiedKey = WritesOf SpellsCertificate certificate_at (λ c. flat (normal_key c.signed.key))
+
+-- of the signature
+abbrev pub WritesNormalSignature : List ℕ → ℕ → ℕ → ℕ → List ℕ → List ℕ → Type 0
+WritesNormalSignature = WritesOf SpellsSignature signature_at (λ g. flat (signature g))
+
+-- the bytes spell a key, and are not its normal form
+abbrev pub IsRenamedKey : List ℕ → Type 0
+IsRenamedKey bytes = (k : Key) × SpellsKey k bytes × (bytes ≢ flat (normal_key k))

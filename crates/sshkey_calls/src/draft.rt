@@ -3,7 +3,7 @@
 ghost use Rattle.std.specs.Prelude.{◌≡◌, ◌≢◌};
 ghost use Rattle.sshkey_model.specs.Certificates.{normal_to_be_signed};
 ghost use Rattle.sshkey_model.specs.Parts.{Fits, flat};
-ghost use Rattle.sshkey_cert_values.specs.ToBeSignedValues.{to_be_signed_of};
+ghost use Rattle.sshkey_cert_values.specs.CertificateFields.{to_be_signed_of};
 ghost use Rattle.sshkey_calls.specs.Writing.{WritesContent};
 
 use crate::number::error_status;

@@ -8,9 +8,8 @@ ghost use Rattle.sshkey_model.specs.Keys.{SpellsKey, key_data_at};
 ghost use Rattle.sshkey_model.specs.Parts.{flat};
 ghost use Rattle.sshkey_model.specs.Reading.{whole};
 ghost use Rattle.sshkey_model.specs.Texts.{IsText, string, texts_at, SpellsTexts};
-ghost use Rattle.sshkey_cert_values.specs.OptionMaps.{options_of};
+ghost use Rattle.sshkey_cert_values.specs.CertificateFields.{options_of, to_be_signed_of};
 ghost use Rattle.sshkey_model.specs.Options.{SpellsOptions, options_value_at};
-ghost use Rattle.sshkey_cert_values.specs.ToBeSignedValues.{to_be_signed_of};
 ghost use Rattle.sshkey_calls.specs.Drafts.{FindsOr, FindsPart, FitsString, IsCertifiable, TellsFields, TellsNumbers, certifiable_number, draft_fault, first_number, list_number, number_of, parts_fault, string_number, text_number};
 
 use crate::draft::CertificateDraft;

@@ -3,8 +3,8 @@
 ghost use Rattle.std.specs.Prelude.{◌≡◌, IsTrue};
 ghost use Rattle.sshkey_cert_ref.specs.CertificateRef.{certificate_of};
 ghost use Rattle.sshkey_model.specs.Certificates.{type_number};
-ghost use Rattle.sshkey_cert_values.specs.CertTypes.{type_of};
-ghost use Rattle.sshkey_calls.specs.Fields.{AreFieldsOf, IsNumberOf};
+ghost use Rattle.sshkey_cert_values.specs.CertificateFields.{type_of};
+ghost use Rattle.sshkey_calls.specs.Certificates.{AreFieldsOf, IsNumberOf};
 
 use sshkey_cert_ref::CertificateRef;
 use sshkey_cert_values::CertType;

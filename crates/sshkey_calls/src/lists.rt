@@ -2,7 +2,7 @@
 
 ghost use Rattle.std.specs.Prelude.{◌≡◌, ◌-◌};
 ghost use Rattle.sshkey_cert_ref.specs.CertificateRef.{certificate_bytes, certificate_of};
-ghost use Rattle.sshkey_calls.specs.Lists.{ArePartsOf};
+ghost use Rattle.sshkey_calls.specs.Certificates.{ArePartsOf};
 
 use crate::part::Part;
 use sshkey_cert_ref::CertificateRef;

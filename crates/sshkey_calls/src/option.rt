@@ -3,7 +3,7 @@
 ghost use Rattle.std.specs.Prelude.{◌≡◌, ℕ, List, IfSome, IfNone};
 ghost use Rattle.sshkey_model.specs.Options.{HasNesting, Nesting, option_value};
 ghost use Rattle.sshkey_model.specs.Parts.{Fits, flat};
-ghost use Rattle.sshkey_calls.specs.Options.{BeginsWithOption};
+ghost use Rattle.sshkey_calls.specs.Certificates.{BeginsWithOption};
 
 use crate::part::Part;
 use sshkey_terms::split_string;

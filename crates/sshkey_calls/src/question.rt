@@ -2,9 +2,9 @@
 
 ghost use Rattle.std.specs.Prelude.{◌≡◌, IfOk, option_map};
 ghost use Rattle.sshkey_cert_ref.specs.CertificateRef.{certificate_of};
-ghost use Rattle.sshkey_cert.specs.Questions.{certificate_question};
+ghost use Rattle.sshkey_cert.specs.Validity.{certificate_question};
 ghost use Rattle.sshkey_keys.specs.Questions.{asks, question_of};
-ghost use Rattle.sshkey_calls.specs.Questions.{AddsQuestion, ArePlaced, GivesQuestion, TellsQuestion, question_bytes};
+ghost use Rattle.sshkey_calls.specs.Signatures.{AddsQuestion, ArePlaced, GivesQuestion, TellsQuestion, question_bytes};
 ghost use Rattle.sshkey_calls.specs.Rooms.{IsLaidOut};
 
 use crate::number::{MEMORY, UNSUPPORTED, algorithm_number};

@@ -9,7 +9,7 @@ ghost use Rattle.sshkey_model.specs.Certificates.{certificate_at, SpellsCertific
 ghost use Rattle.sshkey_model.specs.Keys.{normal_key, key_data_at};
 ghost use Rattle.sshkey_model.specs.Parts.{flat};
 ghost use Rattle.sshkey_model.specs.Reading.{Fault, whole};
-ghost use Rattle.sshkey_calls.specs.NormalForms.{IsRenamedKey};
+ghost use Rattle.sshkey_calls.specs.Writing.{IsRenamedKey};
 ghost use Rattle.sshkey_calls.specs.Revocations.{IsWhetherCertificateRevoked, IsWhetherKeyRevoked};
 
 use sshkey_base::{Error, Result, encode_vec};

@@ -1,12 +1,11 @@
 //! What has to be verified of a signature under a key.
 
-ghost use Rattle.sshkey_keys_ref.specs.KeyDataRef.{key_bytes};
-ghost use Rattle.sshkey_keys_ref.specs.SignatureRef.{signature_bytes};
+ghost use Rattle.sshkey_keys_ref.specs.Keys.{key_bytes};
+ghost use Rattle.sshkey_keys_ref.specs.Signatures.{signature_bytes};
 ghost use Rattle.sshkey_model.specs.Keys.{Key, SpellsKey};
 ghost use Rattle.sshkey_model.specs.Signatures.{Signature, SpellsSignature};
 ghost use Rattle.sshkey_model.specs.Verification.{question};
-ghost use Rattle.sshkey_calls.specs.Questions.{TellsQuestion};
-ghost use Rattle.sshkey_calls.specs.Signatures.{TellsQuestionUnder};
+ghost use Rattle.sshkey_calls.specs.Signatures.{TellsQuestion, TellsQuestionUnder};
 
 use crate::number::{MEMORY, error_status};
 use crate::question::{Question, answer_question};

@@ -7,8 +7,7 @@ ghost use Rattle.sshkey_model.specs.Names.{Sha256};
 ghost use Rattle.sshkey_model.specs.Verification.{question};
 ghost use Rattle.sshkey_sshsig.specs.SshSignatures.{ssh_signature_of};
 ghost use Rattle.sshkey_calls.specs.Fingerprints.{GivesDigestOf};
-ghost use Rattle.sshkey_calls.specs.Questions.{GivesQuestion};
-ghost use Rattle.sshkey_calls.specs.SshSignatures.{TellsDigestQuestion, TellsMessageQuestion, TellsSigner, FindsSshSignature};
+ghost use Rattle.sshkey_calls.specs.Signatures.{GivesQuestion, TellsDigestQuestion, TellsMessageQuestion, TellsSigner, FindsSshSignature};
 
 use crate::digest::Sha256Digest;
 use crate::number::{DONE, LENGTH, MEMORY, OTHER_NAMESPACE, UNSUPPORTED, error_status};

@@ -1,7 +1,6 @@
 //! Key revocation lists.
 
-ghost use Rattle.sshkey_krl.specs.Owned.{authority_of};
-ghost use Rattle.sshkey_krl.specs.Written.{IsWellFormedAuthority};
+ghost use Rattle.sshkey_krl.specs.Writing.{authority_of, IsWellFormedAuthority};
 
 use crate::bytes::{NO_LINE, part};
 use sshkey_base::{Decode, Result, decode_whole};

@@ -1,11 +1,5 @@
-pub mod FieldFits
-pub mod NormalFits
+pub mod NormalForms
 pub mod Given
 pub mod Finished
-pub mod Signing
 pub mod Lines
-pub mod OneLines
-pub mod KeysOfCertificates
-pub mod KeysOrCertificates
-pub mod CertificateReaders
-mod Shortest
+pub mod Certificates

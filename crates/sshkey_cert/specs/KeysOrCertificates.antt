@@ -8,7 +8,7 @@ use Rattle.sshkey_base.specs.declared.error.Error.{Error}
 use Rattle.sshkey_model.specs.Keys.{key_format, SpellsKey, key_data_at}
 use Rattle.sshkey_keys.specs.Keys.{key_of}
 use Rattle.sshkey_model.specs.Certificates.{certificate_format, SpellsCertificate}
-use Rattle.sshkey_cert.specs.CertificateValues.{certificate_of, comment_of}
+use Rattle.sshkey_cert.specs.Certificates.{certificate_of, comment_of}
 use Rattle.sshkey_cert.specs.declared.key_or_certificate.KeyOrCertificate.{KeyOrCertificate}
 use Rattle.sshkey_cert.specs.declared.key_or_certificate.KeyOrCertificate.TheVariants as either
 

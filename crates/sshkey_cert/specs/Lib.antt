@@ -1,9 +1,5 @@
 pub mod Fitting
-pub mod CertificateValues
+pub mod Certificates
 pub mod Validity
-pub mod Questions
 pub mod Signing
-pub mod Lines
-pub mod Comparisons
 pub mod KeysOrCertificates
-pub mod Faults

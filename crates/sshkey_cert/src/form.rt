@@ -1,7 +1,7 @@
 //! Whether bytes are a certificate's normal form.
 
 ghost use Rattle.std.specs.Prelude.{◌≡◌, ◌↔◌, IsTrue};
-ghost use Rattle.sshkey_cert.specs.CertificateValues.{certificate_of};
+ghost use Rattle.sshkey_cert.specs.Certificates.{certificate_of};
 ghost use Rattle.sshkey_model.specs.Certificates.{normal_certificate, SpellsCertificate};
 ghost use Rattle.sshkey_model.specs.Parts.{flat};
 

@@ -5,7 +5,7 @@ ghost use Rattle.sshkey_model.specs.Certificates.{Certificate as TheCertificate,
 ghost use Rattle.sshkey_model.specs.Keys.{Key, SpellsKey};
 ghost use Rattle.sshkey_model.specs.Parts.{flat};
 ghost use Rattle.sshkey_base.specs.Comparisons.{EqualMeanSame, IsEqualityAmong, IsEqualityOf};
-ghost use Rattle.sshkey_cert.specs.Comparisons.{IsOfKeys, IsOrderOfCertificates, content_of};
+ghost use Rattle.sshkey_cert.specs.Certificates.{IsOfKeys, IsOrderOfCertificates, content_of};
 ghost use Rattle.sshkey_cert.specs.Validity.{refusal_of};
 
 use crate::certificate::{Certificate, CertificateRefusal};

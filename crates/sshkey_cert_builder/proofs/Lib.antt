@@ -1,4 +1,2 @@
 pub mod Chained
-pub mod Principals
-pub mod Signed
-pub mod Steps
+pub mod Drafts

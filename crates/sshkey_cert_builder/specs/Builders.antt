@@ -14,11 +14,9 @@ use Rattle.sshkey_base.specs.declared.error.Error.TheVariants as wide
 use Rattle.sshkey_cert.specs.Signing.{PermitsToSign}
 use Rattle.sshkey_keys.specs.Keys.{key_of}
 use Rattle.sshkey_keys.specs.declared.key_data.KeyData.{KeyData}
-use Rattle.sshkey_cert_values.specs.CertTypes.{type_of}
-use Rattle.sshkey_cert_values.specs.OptionMaps.{options_of}
+use Rattle.sshkey_cert_values.specs.CertificateFields.{type_of, options_of, time_of, end_of}
 use Rattle.sshkey_cert_values.specs.declared.end_time.EndTime.{EndTime}
 use Rattle.sshkey_cert_values.specs.declared.unix_time.UnixTime.{UnixTime}
-use Rattle.sshkey_cert_values.specs.Times.{time_of, end_of}
 use Rattle.sshkey_cert_builder.specs.contracts.builder.Builder.{the_row}
 use Rattle.sshkey_cert_builder.specs.declared.builder.Builder.{Builder}
 use Rattle.sshkey_cert_builder.specs.declared.builder.chain.Loan.{Loan}

@@ -7,9 +7,7 @@ ghost use Rattle.sshkey_base.specs.declared.error.Error.TheVariants.{Memory};
 ghost use Rattle.sshkey_keys.specs.Keys.{key_of};
 ghost use Rattle.sshkey_model.specs.Certificates.{forever};
 ghost use Rattle.sshkey_model.specs.Drafts.{Serial, Kind, KeyId, Comment, Principal, AllPrincipals, Critical, Extension, begun, bad_start, bad_window};
-ghost use Rattle.sshkey_cert_values.specs.CertTypes.{type_of};
-ghost use Rattle.sshkey_cert_values.specs.OptionMaps.{option_of};
-ghost use Rattle.sshkey_cert_values.specs.Times.{end_of, time_of};
+ghost use Rattle.sshkey_cert_values.specs.CertificateFields.{type_of, option_of, end_of, time_of};
 ghost use Rattle.sshkey_cert_builder.specs.Builders.{draft_of, IsWindow, BeginsDraft, BeginsInMemory, Chains, ChainsAlways, IsTheBuilder, StaysIfRefused, given_key};
 
 mod chain;

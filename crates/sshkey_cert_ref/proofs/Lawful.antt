@@ -10,7 +10,7 @@ use Rattle.sshkey_base.proofs.Lawful.{certified_lawful, text_lawful, texts_lawfu
 use Rattle.sshkey_terms.proofs.Lawful.{boxed_lawful, dependent_lawful, each_after_lawful, known_as_lawful, or_nothing_lawful, tested_lawful}
 use Rattle.sshkey_keys.proofs.Lawful.{body_lawful, name_lawful}
 use Rattle.sshkey_cert_values.proofs.Lawful.{end_lawful, no_length, option_lawful, option_shows, text_shows, time_lawful, type_lawful}
-use Rattle.sshkey_cert_ref.specs.Fields.{boxed_key_format}
+use Rattle.sshkey_cert_ref.specs.Certificates.{boxed_key_format}
 
 spelled_value_lawful : IsFormat spelled_value_format
 spelled_value_lawful = or_nothing_lawful ([], Plain) (λ x b s. text_shows s.inner b s.spelled) no_length (tested_lawful spelled_text text_lawful)

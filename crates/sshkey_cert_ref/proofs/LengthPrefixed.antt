@@ -11,12 +11,12 @@ use Rattle.sshkey_base.specs.Answers.{AnswersAlways}
 use Rattle.sshkey_base.specs.Causes.{Cause}
 use Rattle.sshkey_base.proofs.MappedBoxes.{made}
 use Rattle.sshkey_keys.proofs.BoxedKeys.{plain, key_whole}
-use Rattle.sshkey_keys_ref.specs.KeyDataRef.{key_bytes}
-use Rattle.sshkey_keys_ref.specs.SignatureRef.{signature_bytes}
+use Rattle.sshkey_keys_ref.specs.Keys.{key_bytes}
+use Rattle.sshkey_keys_ref.specs.Signatures.{signature_bytes}
 use Rattle.sshkey_keys_ref.specs.declared.key_data_ref.KeyDataRef.{KeyDataRef}
 use Rattle.sshkey_keys_ref.specs.declared.signature_ref.SignatureRef.{SignatureRef}
 use Rattle.sshkey_terms.specs.Slices.{Keeps, found_or}
-use Rattle.sshkey_cert_ref.specs.Fields.{spelled_key_of}
+use Rattle.sshkey_cert_ref.specs.Certificates.{spelled_key_of}
 use Rattle.sshkey_cert_ref.specs.Parts.{IsKeyIn, IsSignatureIn}
 
 -- the key of bytes that were kept, or the fault of others

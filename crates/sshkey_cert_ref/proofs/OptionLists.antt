@@ -1,20 +1,60 @@
--- Lists of options in the words of the grammar.
-use Rattle.std.proofs.Common.{◌≡◌, ℕ, List, [], Bool, true, Result, Ok, Err, refl, sym, ap, ◌∙◌, subst}
-use Rattle.sshkey_model.specs.Reading.{Fault, ◌>>=◌, Whole, checked_at, end_of, list_whole, to_end, whole}
-use Rattle.sshkey_model.specs.Options.{CertificateOption, Nesting, apart, option_at, firsts, seconds, options_at}
-use Rattle.sshkey_model.proofs.CombinedReaders.{bind_ok}
-use Rattle.sshkey_model.proofs.OptionReaders.{option_list_reads}
+-- What stands in a string is judged where it lies.
+use Rattle.std.proofs.Common.{◌≡◌, ℕ, List, Bool, true, false, length, take, drop, cond, Result, Ok, Err, refl, ◌∙◌, [], sym, ap, subst, ◌↔◌, ◌+◌, ◌*◌, ◌∷◌, ◌++◌, arith}
+use Rattle.std.specs.Int.{w32, to_be_bytes}
+use Rattle.std.specs.Prelude.{nat_lt}
+use denote.Ref.{Bor}
+use Rattle.sshkey_model.specs.Reading.{Fault, Length, ◌>>=◌, Front, Whole, number_at, box_at, checked_at, end_of, list_whole, to_end, whole}
 use Rattle.sshkey_base.specs.Answers.{AnswersAlways}
 use Rattle.sshkey_base.specs.Causes.{Cause}
-use Rattle.sshkey_base.specs.Reading.{NoSpelling}
+use Rattle.sshkey_base.specs.Reading.{Reads, Refuses, GivesAlways, NoSpelling}
+use Rattle.sshkey_base.specs.Source.{Source, all_of}
+use Rattle.sshkey_base.proofs.Judging.{judged_always}
+use Rattle.sshkey_model.specs.Options.{CertificateOption, Nesting, apart, option_at, firsts, seconds, options_at, Plain, Nested, HasNesting, HasOptionPlaces, option, each_option, plain_nestings}
+use Rattle.sshkey_model.proofs.CombinedReaders.{bind_ok}
+use Rattle.sshkey_model.proofs.OptionReaders.{option_list_reads}
 use Rattle.sshkey_base.proofs.Lengths.{with_rest}
 use Rattle.sshkey_base.proofs.MappedBoxes.{made}
 use Rattle.sshkey_cert_ref.specs.declared.certificate_options_ref.CertificateOptionsRef.{CertificateOptionsRef}
-use Rattle.sshkey_cert_ref.specs.OptionLists.{SpellsEachOption, options_in, nestings_in, are_plain, plainness_from}
+use Rattle.sshkey_cert_ref.specs.Lists.{SpellsEachOption, options_in, nestings_in, are_plain, plainness_from}
 use Rattle.sshkey_cert_ref.specs.Views.{bytes_of_options, spelled_options_of}
 use Rattle.sshkey_terms.specs.Slices.{Keeps, is_taken, found_or}
 use Rattle.sshkey_terms.proofs.SliceFronts.{answers_err, taken_value}
-use Rattle.sshkey_cert_ref.proofs.BoxedBytes.{bytes_box, box_bytes}
+use Rattle.std.proofs.lemmas.List.{length-append}
+use Rattle.sshkey_model.specs.Parts.{flat}
+use Rattle.sshkey_model.specs.Texts.{string}
+
+-- the bytes of a string
+abbrev pub bytes_box : Front (List ℕ)
+bytes_box = box_at (λ s. Ok s)
+
+-- a string is read, and then what it holds
+pub box_bytes : {Y : Type 0} (judge : Whole Y) (b : List ℕ) → box_at judge b ≡ checked_at judge bytes_box b
+unfolding box_at
+box_bytes {Y} judge b = go (number_at w32 b)
+  where
+    inside : (n : ℕ) (rest : List ℕ) (few : Bool) → cond {A = Result (Y × List ℕ) Fault} few (Err Length) (judge (take n rest) >>= λ x. Ok (x, drop n rest)) ≡ (cond {A = Result (List ℕ × List ℕ) Fault} few (Err Length) (Ok (take n rest, drop n rest)) >>= λ x. judge x.0 >>= λ y. Ok (y, x.1))
+    inside n rest true = refl
+    inside n rest false = refl
+
+    go : (found : Result (ℕ × List ℕ) Fault) → (found >>= λ n. cond {A = Result (Y × List ℕ) Fault} (nat_lt (length n.1) n.0) (Err Length) (judge (take n.0 n.1) >>= λ x. Ok (x, drop n.0 n.1))) ≡ ((found >>= λ n. cond {A = Result (List ℕ × List ℕ) Fault} (nat_lt (length n.1) n.0) (Err Length) (Ok (take n.0 n.1, drop n.0 n.1))) >>= λ x. judge x.0 >>= λ y. Ok (y, x.1))
+    go (Ok n) = inside n.0 n.1 (nat_lt (length n.1) n.0)
+    go (Err f) = refl
+
+module _ {Y : Type 0} (read : Front Y) (judge : Whole Y) (b : List ℕ) (same : read b ≡ checked_at judge bytes_box b) where
+  -- there is no string
+  pub no_string : (c narrow : Cause) → c ≡ narrow → Refuses 0 narrow (bytes_box b) → Refuses 0 c (read b)
+  no_string c narrow wide h = rw (same, h.is) (record { met = h.met; is = refl; same = λ sound. wide ∙ h.same sound })
+
+  -- the string holds a value, or none
+  pub in_string : {X E : Type 0} (means : X → Y) (cause : E → Cause) (t : Source) (s : Bor (List ℕ)) (r : Result X E) → Reads (λ b. b.now) bytes_box (all_of b) s t → AnswersAlways means cause (judge s.now) r → GivesAlways means cause read (all_of b) r t
+  in_string {X} {E} means cause t s (Ok x) h a =
+      let g = judged_always {E = E} (λ b. b.now) means cause bytes_box judge (all_of b) t s (Ok x) h a in
+      record { value = same ∙ g.value; missing = g.missing; outer = g.outer }
+  in_string {X} {E} means cause t s (Err e) h a =
+      let g = judged_always {X = X} (λ b. b.now) means cause bytes_box judge (all_of b) t s (Err e) h a in
+      record { met = g.met; is = same ∙ g.is; same = g.same }
+
+-- Lists of options in the words of the grammar.
 
 abbrev Pair : Type 0
 Pair = CertificateOption × Nesting
@@ -91,3 +131,48 @@ kept_options {E} cause b r h = go (list_whole option_at b) r refl h
     go (Ok xs) (Err d) e h = absurd h
     go (Err f) (Ok o) e h = absurd h
     go (Err f) (Err d) e h = h
+
+-- Options are spelled in their normal form exactly if none is nested.
+
+plain_ones : (os : List CertificateOption) (ns : List Nesting) → HasOptionPlaces os ns → are_plain ns ≡ true → ns ≡ plain_nestings os
+unfolding HasOptionPlaces
+plain_ones [] [] h e = refl
+plain_ones (o ∷ os) (Plain ∷ ns) h e = ap (λ (z : List Nesting). Plain ∷ z) (plain_ones os ns h.1 e)
+plain_ones (o ∷ os) (Nested ∷ ns) h e = absurd (cc e)
+plain_ones _ _ h e = absurd h
+
+are_plain_ones : (os : List CertificateOption) → are_plain (plain_nestings os) ≡ true
+are_plain_ones [] = refl
+are_plain_ones (o ∷ os) = are_plain_ones os
+
+pub plain_exactly : (os : List CertificateOption) (ns : List Nesting) → HasOptionPlaces os ns → (are_plain ns ≡ true) ↔ (ns ≡ plain_nestings os)
+plain_exactly os ns h = (plain_ones os ns h, λ e. ap are_plain e ∙ are_plain_ones os)
+
+-- ---- each nested one has four bytes more
+
+nested_count : List Nesting → ℕ
+nested_count [] = 0
+nested_count (Plain ∷ ns) = nested_count ns
+nested_count (Nested ∷ ns) = 1 + nested_count ns
+
+none_nested : (ns : List Nesting) → nested_count ns ≡ 0 → are_plain ns ≡ true
+unfolding nested_count
+none_nested [] e = refl
+none_nested (Plain ∷ ns) e = none_nested ns e
+none_nested (Nested ∷ ns) e = absurd (omega (arith, e))
+
+nested_len : (name value : List ℕ) → HasNesting value Nested → length (flat (option (record { name = name; value = value }) Nested)) ≡ length (flat (option (record { name = name; value = value }) Plain)) + 4
+unfolding flat
+nested_len name [] h = omega (arith, length-append (flat (string name)) (to_be_bytes w32 4 ++ to_be_bytes w32 0 ++ []), length-append (flat (string name)) (to_be_bytes w32 0 ++ []))
+nested_len name (c ∷ value) h = absurd (cc h)
+
+lens : (os : List CertificateOption) (ns : List Nesting) → HasOptionPlaces os ns → length (flat (each_option os ns)) ≡ length (flat (each_option os (plain_nestings os))) + 4 * nested_count ns
+unfolding flat HasOptionPlaces nested_count
+lens [] [] h = refl
+lens (o ∷ os) (Plain ∷ ns) h = omega (arith, lens os ns h.1, length-append (flat (option o Plain)) (flat (each_option os ns)), length-append (flat (option o Plain)) (flat (each_option os (plain_nestings os))))
+lens (o ∷ os) (Nested ∷ ns) h = omega (arith, lens os ns h.1, nested_len o.name o.value h.0, length-append (flat (option o Nested)) (flat (each_option os ns)), length-append (flat (option o Plain)) (flat (each_option os (plain_nestings os))))
+lens _ _ h = absurd h
+
+pub normal_exactly : (b : List ℕ) (os : List CertificateOption) (ns : List Nesting) → HasOptionPlaces os ns → b ≡ flat (each_option os ns) → (are_plain ns ≡ true) ↔ (b ≡ flat (each_option os (plain_nestings os)))
+normal_exactly b os ns h shape =
+    (λ plain. shape ∙ ap (λ (z : List Nesting). flat (each_option os z)) (plain_ones os ns h plain), λ normal. none_nested ns (omega (arith, lens os ns h, ap length (sym shape ∙ normal))))

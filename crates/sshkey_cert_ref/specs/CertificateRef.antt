@@ -2,9 +2,9 @@
 use Rattle.std.specs.Prelude.{◌≢◌, ◌⊎◌, ℕ, List}
 use Rattle.sshkey_model.specs.Certificates.{Certificate, CertificateChoices, plain_choices}
 use Rattle.sshkey_model.specs.Verification.{Question}
-use Rattle.sshkey_cert.specs.Questions.{certificate_question}
-use Rattle.sshkey_keys_ref.specs.Dispatch.{RunsOutFor}
-use Rattle.sshkey_cert_ref.specs.Spelled.{spelled_in}
+use Rattle.sshkey_cert.specs.Validity.{certificate_question}
+use Rattle.sshkey_keys_ref.specs.Signatures.{RunsOutFor}
+use Rattle.sshkey_cert_ref.specs.Certificates.{spelled_in}
 use Rattle.sshkey_cert_ref.specs.declared.certificate_ref.CertificateRef.{CertificateRef}
 
 -- the bytes that it was read from

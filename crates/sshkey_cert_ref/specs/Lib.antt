@@ -1,9 +1,5 @@
-pub mod TextLists
-pub mod OptionLists
-pub mod SpelledOptions
+pub mod Lists
 pub mod Views
-pub mod Taking
 pub mod Parts
-pub mod Fields
-pub mod Spelled
+pub mod Certificates
 pub mod CertificateRef

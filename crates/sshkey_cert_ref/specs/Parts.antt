@@ -1,19 +1,34 @@
--- Which slices are the parts of which certificate.
-use Rattle.std.specs.Prelude.{◌≡◌}
+-- What a call gives that cuts parts off the front of a slice.
+use Rattle.std.specs.Prelude.{◌≡◌, List, ℕ, Result, Ok, Err}
+use denote.Ref.{Bor}
+use Rattle.sshkey_model.specs.Reading.{Fault, Front}
+use Rattle.sshkey_base.specs.Causes.{Cause}
+use Rattle.sshkey_base.specs.Reading.{Refuses}
 use Rattle.sshkey_model.specs.CertificateNames.{certificate_name}
 use Rattle.sshkey_model.specs.Certificates.{SignedFields, CertificateChoices}
 use Rattle.sshkey_model.specs.Grammar.{spelled}
 use Rattle.sshkey_model.specs.Keys.{Key, Head, key_algorithm, body, key}
 use Rattle.sshkey_model.specs.Parts.{flat}
 use Rattle.sshkey_model.specs.Signatures.{Signature, signature}
-use Rattle.sshkey_keys_ref.specs.KeyDataRef.{key_bytes}
-use Rattle.sshkey_keys_ref.specs.SignatureRef.{signature_bytes}
+use Rattle.sshkey_keys_ref.specs.Keys.{key_bytes}
+use Rattle.sshkey_keys_ref.specs.Signatures.{signature_bytes}
 use Rattle.sshkey_keys_ref.specs.declared.key_data_ref.KeyDataRef.{KeyDataRef}
 use Rattle.sshkey_keys_ref.specs.declared.signature_ref.SignatureRef.{SignatureRef}
-use Rattle.sshkey_cert_values.specs.CertTypes.{type_of}
-use Rattle.sshkey_cert_values.specs.Times.{time_of, end_of}
+use Rattle.sshkey_cert_values.specs.CertificateFields.{type_of, time_of, end_of}
 use Rattle.sshkey_cert_ref.specs.Views.{texts_of, spelled_options_of}
 use Rattle.sshkey_cert_ref.specs.declared.parts.Parts.{Parts}
+
+-- What belongs to the value that was found, or the fault that was. It takes no memory.
+abbrev pub TakesWhole : {X Y E : Type 0} → (X → Y → Type 0) → (E → Cause) → Result Y Fault → Result X E → Type 0
+TakesWhole {Y = Y} BelongsTo cause found (Ok x) = (y : Y) × BelongsTo x y × (found ≡ Ok y)
+TakesWhole BelongsTo cause found (Err e) = Refuses 0 (cause e) found
+
+-- What belongs to the value that the plain reader gives, and the bytes after it, or its fault.
+abbrev pub Cuts : {X Y E : Type 0} → (X → Y → Type 0) → (E → Cause) → Front Y → List ℕ → Result (X × Bor (List ℕ)) E → Type 0
+Cuts {Y = Y} BelongsTo cause read b (Ok p) = (y : Y) × BelongsTo p.0 y × (read b ≡ Ok (y, p.1.now))
+Cuts BelongsTo cause read b (Err e) = Refuses 0 (cause e) (read b)
+
+-- Which slices are the parts of which certificate.
 
 -- the bytes are those of the key, its name spelled as the choice says
 abbrev pub IsKeyIn : KeyDataRef → Key × Head → Type 0

@@ -7,7 +7,7 @@ ghost use Rattle.sshkey_model.specs.Formats.{IsFormat};
 ghost use Rattle.sshkey_model.specs.CertificateNames.{certified_from, certified_format};
 ghost use Rattle.sshkey_model.specs.Names as names;
 ghost use Rattle.sshkey_terms.specs.Slices.{is_taken};
-ghost use Rattle.sshkey_cert_ref.specs.Spelled.{certified_in};
+ghost use Rattle.sshkey_cert_ref.specs.Certificates.{certified_in};
 
 use sshkey_base::{Algorithm, Error, Result, encoding};
 use sshkey_terms::ReadFrom;

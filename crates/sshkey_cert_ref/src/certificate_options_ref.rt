@@ -7,8 +7,8 @@ ghost use Rattle.sshkey_model.specs.Reading.{list_whole};
 ghost use Rattle.sshkey_base.specs.Answers.{AnswersAlways};
 ghost use Rattle.sshkey_base.specs.Causes.{cause};
 ghost use Rattle.sshkey_terms.specs.Slices.{is_taken};
-ghost use Rattle.sshkey_cert_ref.specs.OptionLists.{are_plain, nestings_in, options_in, plainness_from};
-ghost use Rattle.sshkey_cert_ref.specs.SpelledOptions.{pair_of};
+ghost use Rattle.sshkey_cert_ref.specs.Lists.{are_plain, nestings_in, options_in, plainness_from};
+ghost use Rattle.sshkey_cert_ref.specs.Views.{pair_of};
 
 mod item;
 mod iter;
@@ -33,7 +33,7 @@ pub struct CertificateOptionsRef<'a> {
 impl<'a> CertificateOptionsRef<'a> {
     ghost use Rattle.sshkey_model.specs.Options.{AreOptions, options_at, plain_nestings};
     ghost use Rattle.sshkey_terms.specs.Slices.{AcceptsAll, AcceptsSplit, Keeps, Splits};
-    ghost use Rattle.sshkey_cert_ref.specs.OptionLists.{SpellsEachOption, SpellsOptionString, plain_bytes};
+    ghost use Rattle.sshkey_cert_ref.specs.Lists.{SpellsEachOption, SpellsOptionString, plain_bytes};
     ghost use Rattle.sshkey_cert_ref.specs.Views.{bytes_of_options, options_of, nestings_of, spelled_options_of};
 
     /// The options that all the bytes spell; no bytes are no options.

@@ -8,9 +8,8 @@ ghost use Rattle.sshkey_model.specs.Parts.{flat};
 ghost use Rattle.sshkey_model.specs.Reading.{box_at, whole};
 ghost use Rattle.sshkey_model.specs.Signatures.{signature_at};
 ghost use Rattle.sshkey_terms.specs.Slices.{is_taken};
-ghost use Rattle.sshkey_cert_ref.specs.Parts.{AreCertificateParts, IsSignatureIn};
-ghost use Rattle.sshkey_cert_ref.specs.Spelled.{fields_in, spelled_in};
-ghost use Rattle.sshkey_cert_ref.specs.Taking.{TakesWhole};
+ghost use Rattle.sshkey_cert_ref.specs.Parts.{AreCertificateParts, IsSignatureIn, TakesWhole};
+ghost use Rattle.sshkey_cert_ref.specs.Certificates.{fields_in, spelled_in};
 
 mod fields;
 mod lent;

@@ -7,11 +7,9 @@ ghost use Rattle.sshkey_model.specs.Certificates.{CertificateType, end_format, t
 ghost use Rattle.sshkey_model.specs.Keys.{Head, Key};
 ghost use Rattle.sshkey_model.specs.Reading.{box_at, whole};
 ghost use Rattle.sshkey_model.specs.Signatures.{signature_at};
-ghost use Rattle.sshkey_cert_values.specs.CertTypes.{type_of};
-ghost use Rattle.sshkey_cert_values.specs.Times.{time_of, end_of};
-ghost use Rattle.sshkey_cert_ref.specs.Fields.{boxed_key_format, spelled_key_of};
-ghost use Rattle.sshkey_cert_ref.specs.Parts.{IsSignatureIn};
-ghost use Rattle.sshkey_cert_ref.specs.Taking.{Cuts};
+ghost use Rattle.sshkey_cert_values.specs.CertificateFields.{type_of, time_of, end_of};
+ghost use Rattle.sshkey_cert_ref.specs.Certificates.{boxed_key_format, spelled_key_of};
+ghost use Rattle.sshkey_cert_ref.specs.Parts.{IsSignatureIn, Cuts};
 
 use crate::strings::take_string;
 use sshkey_base::{Error, Result};

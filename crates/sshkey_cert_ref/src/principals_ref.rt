@@ -6,7 +6,7 @@ ghost use Rattle.sshkey_model.specs.Texts.{IsText, text_list_at};
 ghost use Rattle.sshkey_base.specs.Answers.{Judges};
 ghost use Rattle.sshkey_base.specs.Causes.{encoding_cause};
 ghost use Rattle.sshkey_terms.specs.Slices.{is_taken};
-ghost use Rattle.sshkey_cert_ref.specs.TextLists.{texts_in};
+ghost use Rattle.sshkey_cert_ref.specs.Lists.{texts_in};
 
 mod iter;
 
@@ -26,7 +26,7 @@ pub struct PrincipalsRef<'a> {
 impl<'a> PrincipalsRef<'a> {
     ghost use Rattle.sshkey_model.specs.Texts.{texts_at, SpellsTexts};
     ghost use Rattle.sshkey_terms.specs.Slices.{AcceptsAll, AcceptsSplit, Keeps, Splits};
-    ghost use Rattle.sshkey_cert_ref.specs.TextLists.{SpellsEachText};
+    ghost use Rattle.sshkey_cert_ref.specs.Lists.{SpellsEachText};
     ghost use Rattle.sshkey_cert_ref.specs.Views.{bytes_of_texts, texts_of};
 
     /// The texts that all the bytes spell; no bytes are no texts.

@@ -2,8 +2,7 @@
 
 ghost use Rattle.sshkey_base.specs.Causes.{cause};
 ghost use Rattle.sshkey_model.specs.Certificates.{signed_fields_at};
-ghost use Rattle.sshkey_cert_ref.specs.Parts.{AreCertificateParts};
-ghost use Rattle.sshkey_cert_ref.specs.Taking.{Cuts};
+ghost use Rattle.sshkey_cert_ref.specs.Parts.{AreCertificateParts, Cuts};
 
 use crate::certificate_name::CertificateName;
 use crate::certificate_options_ref::CertificateOptionsRef;

@@ -5,7 +5,7 @@ use Rattle.std.specs.List.{All, list_all, list_any}
 use Rattle.std.proofs.lemmas.List.Sums.{AllPass-from_list_all, list_all-from_AllPass}
 use Rattle.sshkey_model.specs.Options.{CertificateOption}
 use Rattle.sshkey_model.proofs.Refusals.{contained, found, same_bytes}
-use Rattle.sshkey_cert_values.specs.OptionMaps.{IsNamedAmong, is_among}
+use Rattle.sshkey_cert_values.specs.CertificateFields.{IsNamedAmong, is_among}
 
 pub among_texts : (names : List (Bor (List ℕ))) (name : List ℕ) → is_among names name ≡ list_any (λ known. bytes_eq name known.now) names
 among_texts [] name = refl

@@ -1,8 +1,2 @@
-pub mod Times
-pub mod CertTypes
-pub mod OptionMaps
+pub mod CertificateFields
 pub mod Comparisons
-pub mod GatheredPairs
-pub mod ToBeSignedValues
-pub mod ToBeSignedParts
-pub mod ToBeSignedComparisons

@@ -5,7 +5,7 @@ ghost use Rattle.sshkey_model.specs.Certificates as model;
 ghost use Rattle.sshkey_model.specs.Certificates.{CertificateType, certificate_type, type_number, type_from, type_format};
 ghost use Rattle.sshkey_base.specs.Answers.{AnswersAlways};
 ghost use Rattle.sshkey_base.specs.Causes.{cause};
-ghost use Rattle.sshkey_cert_values.specs.CertTypes.{type_of};
+ghost use Rattle.sshkey_cert_values.specs.CertificateFields.{type_of};
 
 use sshkey_base::{Decode, Encode, Error, Reader, Result, Writer, encoding};
 use std::alloc::Global;

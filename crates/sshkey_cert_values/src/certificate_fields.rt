@@ -47,7 +47,7 @@ pub struct CertificateFields {
 }
 
 impl CertificateFields {
-    ghost use Rattle.sshkey_cert_values.specs.ToBeSignedValues.{to_be_signed_of};
+    ghost use Rattle.sshkey_cert_values.specs.CertificateFields.{to_be_signed_of};
 
     /// The bytes that the signature is over, newly allocated.
     ///
@@ -68,9 +68,9 @@ impl CertificateFields {
 /// type other than 1 and 2 and for options that are not in ascending order of their names, `Time`
 /// for a time above 2^63 - 1 (but 2^64 - 1 is allowed as `valid_before`), the faults of keys, and
 /// `TrailingData` with the number of bytes that follow a key or a value in its string.
-#[tactic(auto, using(sshkey_base::proofs::Places::places, crate::proofs::ToBeSignedLawful::to_be_signed_lawful))]
+#[tactic(auto, using(sshkey_base::proofs::Places::places, crate::proofs::Lawful::to_be_signed_lawful))]
 impl Decode for CertificateFields {
-    ghost use Rattle.sshkey_cert_values.specs.ToBeSignedValues.{to_be_signed_of};
+    ghost use Rattle.sshkey_cert_values.specs.CertificateFields.{to_be_signed_of};
 
     type Error = Error;
 
@@ -112,7 +112,7 @@ impl Decode for CertificateFields {
 /// The first thirteen fields, in their normal form.
 #[tactic(auto, using(sshkey_base::proofs::Writing::writing, sshkey_base::proofs::Writing::measuring))]
 impl Encode for CertificateFields {
-    ghost use Rattle.sshkey_cert_values.specs.ToBeSignedValues.{to_be_signed_of};
+    ghost use Rattle.sshkey_cert_values.specs.CertificateFields.{to_be_signed_of};
 
     ghost normal = { λ u. normal_to_be_signed (to_be_signed_of u) };
 

@@ -26,7 +26,7 @@ pub struct EndTime {
 }
 
 impl EndTime {
-    ghost use Rattle.sshkey_cert_values.specs.Times.{end_of};
+    ghost use Rattle.sshkey_cert_values.specs.CertificateFields.{end_of};
 
     /// The end `secs` seconds after the start of 1970, or none for `FOREVER`. Fails with `Time` for any
     /// other number above 2^63 - 1, which is this library's own limit (`UnixTime`). Does not
@@ -64,7 +64,7 @@ impl EndTime {
 }
 
 impl From<UnixTime> for EndTime {
-    ghost use Rattle.sshkey_cert_values.specs.Times.{end_of, time_of};
+    ghost use Rattle.sshkey_cert_values.specs.CertificateFields.{end_of, time_of};
 
     ghost from_gives = { λ time end. end_of end ≡ time_of time };
 
@@ -77,7 +77,7 @@ impl From<UnixTime> for EndTime {
 /// not allocate.
 #[tactic(auto, using(sshkey_base::proofs::Steps::steps, sshkey_base::proofs::Judging::judged, sshkey_base::proofs::Stopping::stopping, crate::proofs::Lawful::end_lawful))]
 impl Decode for EndTime {
-    ghost use Rattle.sshkey_cert_values.specs.Times.{end_of};
+    ghost use Rattle.sshkey_cert_values.specs.CertificateFields.{end_of};
 
     type Error = Error;
 
@@ -97,7 +97,7 @@ impl Decode for EndTime {
 
 /// Eight bytes, most significant first.
 impl Encode for EndTime {
-    ghost use Rattle.sshkey_cert_values.specs.Times.{end_of};
+    ghost use Rattle.sshkey_cert_values.specs.CertificateFields.{end_of};
 
     ghost normal = { λ t. number w64 (end_of t) };
 

@@ -5,12 +5,8 @@ ghost use Rattle.sshkey_model.specs.Options.{CertificateOption, SpellsOptions};
 ghost use Rattle.sshkey_base.specs.Comparisons.{EqualMeanSame, IsEqualityAmong, IsEqualityOf, IsOrderOf};
 ghost use Rattle.sshkey_model.specs.Certificates.{SpellsToBeSigned, to_be_signed_format};
 ghost use Rattle.sshkey_model.specs.Grammar.{IsGrammar};
-ghost use Rattle.sshkey_cert_values.specs.CertTypes.{type_of};
-ghost use Rattle.sshkey_cert_values.specs.Comparisons.{IsOrderOfOptions, time_key, end_key, type_key};
-ghost use Rattle.sshkey_cert_values.specs.OptionMaps.{options_of};
-ghost use Rattle.sshkey_cert_values.specs.Times.{end_of, time_of};
-ghost use Rattle.sshkey_cert_values.specs.ToBeSignedComparisons.{HasKeys, IsOrderOfFields};
-ghost use Rattle.sshkey_cert_values.specs.ToBeSignedValues.{to_be_signed_of};
+ghost use Rattle.sshkey_cert_values.specs.CertificateFields.{type_of, options_of, end_of, time_of, to_be_signed_of};
+ghost use Rattle.sshkey_cert_values.specs.Comparisons.{IsOrderOfOptions, time_key, end_key, type_key, HasKeys, IsOrderOfFields};
 
 use crate::cert_type::CertType;
 use crate::certificate_fields::CertificateFields;
@@ -67,7 +63,7 @@ pub fn compared_signed_fields()
 
 /// It is read exactly where PROTOCOL.certkeys spells it, with each way to spell an empty value and
 /// the authority's name.
-#[tactic(auto, using(crate::proofs::ToBeSignedReaders::to_be_signed_grammar))]
+#[tactic(auto, using(crate::proofs::Lawful::to_be_signed_grammar))]
 pub fn exact_to_be_signed()
     ensures { IsGrammar SpellsToBeSigned to_be_signed_format.read }
 {}

@@ -13,7 +13,7 @@ ghost use Rattle.sshkey_model.specs.Needs.{NeedsBoxed, HasString};
 ghost use Rattle.sshkey_base.specs.Reading.{DecodesWide, Gives};
 ghost use Rattle.sshkey_base.specs.Source.{Later};
 ghost use Rattle.sshkey_base.specs.Stops.{StopsPast};
-ghost use Rattle.sshkey_cert_values.specs.OptionMaps.{IsNamedAmong, is_among, option_of, options_of};
+ghost use Rattle.sshkey_cert_values.specs.CertificateFields.{IsNamedAmong, is_among, option_of, options_of};
 
 mod gathered;
 mod read;
@@ -220,7 +220,7 @@ impl Encode for OptionsMap {
     }
 }
 
-#[tactic(auto, using(crate::proofs::OptionLists::options_normal))]
+#[tactic(auto, using(crate::proofs::Lawful::options_normal))]
 impl NormalForm for OptionsMap {
     ghost IsWellFormed = { λ m. AreOptions (options_of m) };
 

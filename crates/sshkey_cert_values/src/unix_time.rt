@@ -25,7 +25,7 @@ pub struct UnixTime {
 pub const MAX_SECS: u64 = i64::MAX as u64;
 
 impl UnixTime {
-    ghost use Rattle.sshkey_cert_values.specs.Times.{time_of};
+    ghost use Rattle.sshkey_cert_values.specs.CertificateFields.{time_of};
 
     /// The time `secs` seconds after the start of 1970. Fails with `Time` above 2^63 - 1. Does not
     /// allocate.
@@ -49,7 +49,7 @@ impl UnixTime {
 
 /// A crate that calls it names `sshkey_cert_values` too.
 impl From<UnixTime> for u64 {
-    ghost use Rattle.sshkey_cert_values.specs.Times.{time_of};
+    ghost use Rattle.sshkey_cert_values.specs.CertificateFields.{time_of};
 
     ghost from_gives = { λ time secs. secs ≡ time_of time };
 
@@ -61,7 +61,7 @@ impl From<UnixTime> for u64 {
 /// Eight bytes, most significant first. Fails with `Time` above 2^63 - 1. Does not allocate.
 #[tactic(auto, using(sshkey_base::proofs::Steps::steps, sshkey_base::proofs::Judging::judged, sshkey_base::proofs::Stopping::stopping, crate::proofs::Lawful::time_lawful))]
 impl Decode for UnixTime {
-    ghost use Rattle.sshkey_cert_values.specs.Times.{time_of};
+    ghost use Rattle.sshkey_cert_values.specs.CertificateFields.{time_of};
 
     type Error = Error;
 
@@ -81,7 +81,7 @@ impl Decode for UnixTime {
 
 /// Eight bytes, most significant first.
 impl Encode for UnixTime {
-    ghost use Rattle.sshkey_cert_values.specs.Times.{time_of};
+    ghost use Rattle.sshkey_cert_values.specs.CertificateFields.{time_of};
 
     ghost normal = { λ t. number w64 (time_of t) };
 

@@ -1,6 +1,3 @@
-pub mod Paddings
-pub mod Tags
+pub mod Ciphertexts
 pub mod Names
 pub mod Lawful
-pub mod KdfTrees
-pub mod CipherLaws

@@ -3,8 +3,7 @@ use Rattle.std.specs.Prelude.{◌≡◌, ℕ, List, [], ◌∷◌, ◌++◌, len
 use Rattle.sshkey_model.specs.Parts.{flat}
 use Rattle.sshkey_model.specs.Reading.{Length, Label, FormatEncoding, AlgorithmUnknown, TrailingData}
 use Rattle.sshkey_model.specs.KeyDerivation.{Kdf, NoKdf, Bcrypt, kdf}
-use Rattle.sshkey_ciphers.specs.KdfFormats.{cipher_at, kdf_at}
-use Rattle.sshkey_ciphers.specs.Paddings.{padding_end}
+use Rattle.sshkey_ciphers.specs.Formats.{cipher_at, kdf_at, padding_end}
 
 abbrev pub UnknownCipher : Type 0
 UnknownCipher = cipher_at (0 ∷ 0 ∷ 0 ∷ 4 ∷ codes "None") ≡ Err Label

@@ -1,5 +1,5 @@
 -- What ciphers and key derivations mean, and their names.
-use Rattle.std.specs.Prelude.{ℕ, List, Result, Ok, Err}
+use Rattle.std.specs.Prelude.{ℕ, List, Result, Ok, Err, [], ◌∷◌}
 use Rattle.sshkey_model.specs.Reading.{Fault, AlgorithmUnknown, Whole}
 use Rattle.sshkey_model.specs.Names.{named, or_label}
 use Rattle.sshkey_model.specs.KeyDerivation as model
@@ -44,3 +44,23 @@ cipher_from n = or_label (named cipher_name ciphers n)
 
 abbrev pub kdf_algorithm_from : Whole model.KdfAlgorithm
 kdf_algorithm_from n = or_label (named kdf_name kdf_algorithms n)
+
+-- In which order ciphers and key derivations stand.
+
+-- the place of a cipher in their list
+abbrev pub cipher_key : Cipher → List ℕ
+cipher_key cipher.None = 0 ∷ []
+cipher_key cipher.TDesCbc = 1 ∷ []
+cipher_key cipher.Aes128Cbc = 2 ∷ []
+cipher_key cipher.Aes192Cbc = 3 ∷ []
+cipher_key cipher.Aes256Cbc = 4 ∷ []
+cipher_key cipher.Aes128Ctr = 5 ∷ []
+cipher_key cipher.Aes192Ctr = 6 ∷ []
+cipher_key cipher.Aes256Ctr = 7 ∷ []
+cipher_key cipher.Aes128Gcm = 8 ∷ []
+cipher_key cipher.Aes256Gcm = 9 ∷ []
+cipher_key cipher.ChaCha20Poly1305 = 10 ∷ []
+
+abbrev pub kdf_algorithm_key : KdfAlg → List ℕ
+kdf_algorithm_key alg.None = 0 ∷ []
+kdf_algorithm_key alg.Bcrypt = 1 ∷ []

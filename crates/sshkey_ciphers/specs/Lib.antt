@@ -1,6 +1,3 @@
 pub mod Ciphers
-pub mod Ciphertexts
-pub mod Comparisons
-pub mod KdfFormats
-pub mod Paddings
+pub mod Formats
 pub mod CipherExamples

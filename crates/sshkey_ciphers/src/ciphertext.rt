@@ -12,7 +12,7 @@ ghost use Rattle.sshkey_model.specs.Overruns.{NoOverrun, OverrunsString};
 ghost use Rattle.sshkey_model.specs.KeyDerivation.{block_size, tag_size};
 ghost use Rattle.sshkey_model.specs.Reading.{bytes_at};
 ghost use Rattle.sshkey_ciphers.specs.Ciphers.{cipher_of};
-ghost use Rattle.sshkey_ciphers.specs.Ciphertexts.{blocks_at, blocks_from, tag_bytes};
+ghost use Rattle.sshkey_ciphers.specs.Formats.{blocks_at, blocks_from, tag_bytes};
 
 use crate::cipher::Cipher;
 use sshkey_base::{Decode, Error, Reader, Result, array_from};
@@ -24,7 +24,7 @@ use std::alloc::Global;
 /// Fails as `Vec<u8>::decode` does, and with `Crypto` if the bytes are not whole blocks of the
 /// cipher. Allocates only the ciphertext, and nothing for a length that exceeds the remaining
 /// input, which fails with `Length`.
-#[tactic(auto, using(sshkey_base::proofs::Steps::steps, sshkey_base::proofs::Stopping::stopping), unfolding(crate::specs::Ciphertexts::blocks_at))]
+#[tactic(auto, using(sshkey_base::proofs::Steps::steps, sshkey_base::proofs::Stopping::stopping), unfolding(crate::specs::Formats::blocks_at))]
 pub fn ciphertext_from<R: Reader>(alloc: Global, reader: &mut R, cipher: Cipher) -> Result<Vec<u8>>
     ensures gives { Gives (λ v. v.items) cause (blocks_at (cipher_of cipher))
         (R.source reader.old) result (R.source reader.new) }

@@ -1,5 +1,5 @@
 //! Worked examples of ciphers, key derivations and padding, and both sides of each edge.
-#![tactic(auto, unfolding(sshkey_model::specs::Parts::flat, sshkey_model::specs::Reading::string_at, sshkey_model::specs::Reading::number_at, sshkey_model::specs::Reading::bytes_at, sshkey_model::specs::Reading::box_at, sshkey_model::specs::Names::named, sshkey_model::specs::Labels::label_at, sshkey_model::specs::Reading::after_at, crate::specs::KdfFormats::kdf_at))]
+#![tactic(auto, unfolding(sshkey_model::specs::Parts::flat, sshkey_model::specs::Reading::string_at, sshkey_model::specs::Reading::number_at, sshkey_model::specs::Reading::bytes_at, sshkey_model::specs::Reading::box_at, sshkey_model::specs::Names::named, sshkey_model::specs::Labels::label_at, sshkey_model::specs::Reading::after_at, crate::specs::Formats::kdf_at))]
 
 ghost use Rattle.sshkey_ciphers.specs.CipherExamples.{KdfHeaders, KdfOptions, PaddingEnds, UnknownCipher};
 

@@ -13,7 +13,7 @@ ghost use Rattle.sshkey_base.specs.declared.error.Error.TheVariants as wide;
 ghost use Rattle.sshkey_model.specs.KeyDerivation.{Kdf as TheKdf, NoKdf, BcryptDerivation, kdf, bcrypt_options, derivation};
 ghost use Rattle.sshkey_model.specs.Parts.{Any};
 ghost use Rattle.sshkey_ciphers.specs.Ciphers.{kdf_algorithm_of, kdf_of, kdf_with_salt};
-ghost use Rattle.sshkey_ciphers.specs.KdfFormats.{kdf_format, no_options, options_format, none_format, bcrypt_format};
+ghost use Rattle.sshkey_ciphers.specs.Formats.{kdf_format, no_options, options_format, none_format, bcrypt_format};
 
 use crate::kdf_alg::KdfAlg;
 use rand_core::{CryptoRng, Rng};
@@ -230,7 +230,7 @@ impl Encode for Kdf {
 }
 
 /// Every key derivation is one that its format has.
-#[tactic(auto, using(crate::proofs::KdfTrees::kdf_normal))]
+#[tactic(auto, using(crate::proofs::Lawful::kdf_normal))]
 impl NormalForm for Kdf {
     ghost IsWellFormed = { λ k. Any (kdf_of k) };
 

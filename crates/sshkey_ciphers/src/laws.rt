@@ -1,6 +1,6 @@
 //! Laws of ciphers and key derivations. They make no call: each is a fact about the definitions.
 
-#![tactic(auto, using(crate::proofs::CipherLaws::laws))]
+#![tactic(auto, using(crate::proofs::Lawful::laws))]
 
 ghost use Rattle.std.specs.Prelude.{◌↔◌, ℕ, List};
 ghost use Rattle.sshkey_base.specs.Comparisons.{IsEqualityOf, IsOrderOf};
@@ -8,9 +8,8 @@ ghost use Rattle.sshkey_model.specs.Grammar.{IsGrammar, Spells};
 ghost use Rattle.sshkey_model.specs.KeyDerivation.{Kdf as TheKdf, cipher, kdf, kdf_algorithm};
 ghost use Rattle.sshkey_model.specs.Laws.{DetermineValues, ReadBack};
 ghost use Rattle.sshkey_model.specs.Parts.{Any, IsPrefixFree};
-ghost use Rattle.sshkey_ciphers.specs.Ciphers.{cipher_of, kdf_algorithm_of, kdf_of};
-ghost use Rattle.sshkey_ciphers.specs.Comparisons.{cipher_key, kdf_algorithm_key};
-ghost use Rattle.sshkey_ciphers.specs.KdfFormats.{SpellsKdf, cipher_at, kdf_algorithm_at, kdf_at};
+ghost use Rattle.sshkey_ciphers.specs.Ciphers.{cipher_of, kdf_algorithm_of, kdf_of, cipher_key, kdf_algorithm_key};
+ghost use Rattle.sshkey_ciphers.specs.Formats.{SpellsKdf, cipher_at, kdf_algorithm_at, kdf_at};
 
 use crate::cipher::Cipher;
 use crate::kdf::Kdf;

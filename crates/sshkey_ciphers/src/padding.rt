@@ -11,7 +11,7 @@ ghost use Rattle.sshkey_base.specs.Sink.{Encodes};
 ghost use Rattle.sshkey_base.specs.Source.{IsSound, Later};
 ghost use Rattle.sshkey_model.specs.Parts.{bytes};
 ghost use Rattle.sshkey_model.specs.PrivateKeys.{rising, padded, padding};
-ghost use Rattle.sshkey_ciphers.specs.Paddings.{padding_end};
+ghost use Rattle.sshkey_ciphers.specs.Formats.{padding_end};
 
 use crate::cipher::Cipher;
 use sshkey_base::{Encode, Error, Reader, Result, Writer, encoding};

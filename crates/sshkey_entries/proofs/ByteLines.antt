@@ -9,12 +9,11 @@ use Rattle.std.proofs.lemmas.List.Sums.{position_or_len_is}
 use Rattle.std.specs.List.{All, slice_split, position_or_len}
 use Rattle.std.specs.Str.Lines.{lines, lines_of_parts, strip_carriage_return}
 use Rattle.memchr.specs.Find.{IsFirstByte}
-use Rattle.sshkey_entries.specs.Fields.{without_blanks, is_filled, filled_lines}
-use Rattle.sshkey_entries.specs.OptionEnds.{is_blank}
+use Rattle.sshkey_entries.specs.Fields.{without_blanks, is_filled, filled_lines, is_blank}
 use Rattle.sshkey_entries.proofs.Fronts as fronts
 use Rattle.sshkey_entries.proofs.TextLines.{more_lines}
 use Rattle.sshkey_matching.proofs.PatternLists.{none_before, none_there, parts_at}
-use Rattle.sshkey_entries.specs.ByteLines.{CutsLine, IsLineEnd, is_line_end}
+use Rattle.sshkey_entries.specs.Entries.{CutsLine, IsLineEnd, is_line_end}
 
 -- ---- where a test passes first
 

@@ -18,17 +18,15 @@ use Rattle.sshkey_model.proofs.CombinedReaders.{bytes_fit}
 use Rattle.sshkey_model.proofs.LineCuts.{one_front}
 use Rattle.sshkey_model.proofs.LineExamples.{line_ends}
 use Rattle.sshkey_model.proofs.LineTests.{all_characters, each, lacks, cut, no_base64, one_word}
-use Rattle.sshkey_entries.specs.AuthorizedKeys.{IsAuthorizedKey, HasOptions, is_space}
-use Rattle.sshkey_entries.specs.ConfigOptions.{is_option_character}
+use Rattle.sshkey_entries.specs.AuthorizedKeys.{IsAuthorizedKey, HasOptions, is_space, is_option_character}
 use Rattle.sshkey_entries.specs.Entries.{IsNoEntry}
 use Rattle.sshkey_entries.specs.EntryExamples.{Options, Marked, HashedHosts, authorized, host, hash, salt}
-use Rattle.sshkey_matching.specs.Commas.{patterns}
+use Rattle.sshkey_matching.specs.Patterns.{patterns}
 use Rattle.sshkey_entries.specs.KnownHosts.{Marker, CertAuthority, Revoked, Hosts, HashedName, Patterns, IsHosts, IsMarked, IsKnownHost, at_sign, bar}
 use Rattle.sshkey_entries.specs.Examples.{WordEnds}
-use Rattle.sshkey_entries.specs.Fields.{CutsWord, IsField}
-use Rattle.sshkey_entries.specs.OptionEnds.{is_blank}
+use Rattle.sshkey_entries.specs.Fields.{CutsWord, IsField, is_blank}
 use Rattle.sshkey_entries.proofs.Fields.{same_cut}
-use Rattle.sshkey_entries.proofs.OneHost.{bar_not}
+use Rattle.sshkey_entries.proofs.OneEntry.{bar_not}
 
 -- ---- authorized_keys
 

@@ -1,5 +1,5 @@
 -- A line is cut into its fields in one way.
-use Rattle.std.proofs.Common.{◌≡◌, ◌⊎◌, ℕ, List, ◌++◌, true, false, sym, ap, subst, ◌∙◌, arith, tests}
+use Rattle.std.proofs.Common.{◌≡◌, ◌⊎◌, ℕ, List, ◌++◌, true, false, sym, ap, subst, ◌∙◌, arith, tests, ◌<◌, ◌≤◌, length, slice_index, inl, inr}
 use Rattle.base64.specs.Engines.{standard}
 use Rattle.base64.specs.GeneralPurpose.{encode_of}
 use Rattle.sshkey_model.specs.Grammar.{SpellsWith}
@@ -8,9 +8,8 @@ use Rattle.sshkey_model.specs.Lines.{key_name}
 use Rattle.sshkey_model.proofs.Base64Words.{one_blob}
 use Rattle.sshkey_model.proofs.Blobs.{key_blobs}
 use Rattle.sshkey_model.proofs.CombinedReaders.{bytes_fit}
-use Rattle.sshkey_entries.specs.Fields.{without_blanks, is_white, without_white, CutsWord, IsField, EndsField, AreKeyFields}
-use Rattle.sshkey_entries.specs.OptionEnds.{is_blank}
-use Rattle.sshkey_entries.proofs.Fronts.{same_word}
+use Rattle.sshkey_entries.specs.Fields.{without_blanks, is_white, without_white, CutsWord, IsField, EndsField, AreKeyFields, is_blank, CutsField}
+use Rattle.sshkey_entries.proofs.Fronts.{same_word, IsCut}
 
 -- ---- fields
 
@@ -36,3 +35,25 @@ one_fields text k l m n f g =
     let word = same_cut (without_blanks g.after_name) (encode_of standard f.blob) (encode_of standard g.blob) f.after_key g.after_key (subst (λ (t : List ℕ). CutsWord (without_blanks t) (encode_of standard f.blob) f.after_key) name.1 f.word) g.word in
     let blob = one_blob f.blob g.blob (bytes_fit f.blob (key_blobs.bytes k f.blob f.spelled)) (bytes_fit g.blob (key_blobs.bytes l g.blob g.spelled)) word.0 in
     (key_blobs.one k l g.blob (subst (SpellsWith IsKey HasKeyPlaces key k) blob f.spelled) g.spelled, f.comment_is ∙ ap without_blanks word.1 ∙ sym g.comment_is)
+
+-- How a field is cut off.
+
+pub blank_ascii : (c : ℕ) → is_blank c ≡ true → c < 128
+blank_ascii c e = elim (blanks_are c e) [ inl s ↦ omega (arith, s) | inr t ↦ omega (arith, t) ]
+
+pub cuts_field : (text field rest : List ℕ) → IsCut is_blank text field rest → CutsField text field rest
+cuts_field text field rest cut = record { is = cut.0; one_word = cut.1; ends = cut.2 }
+
+pub white_ascii : (c : ℕ) → is_white c ≡ true → c < 128
+white_ascii c e = elim (whites_are c e) [ inl v ↦ omega (arith, v) | inr (inl f) ↦ omega (arith, f) | inr (inr r) ↦ omega (arith, r) ]
+
+-- no character is cut where white space begins
+pub white_place : (bytes text : List ℕ) (n : ℕ) → bytes ≡ text → n ≤ length bytes → ((k : ℕ) → n ≤ k → k < length bytes → is_white (slice_index bytes k) ≡ true)
+    → (n ≤ length text) × (n < length text → 128 ≤ slice_index text n → 192 ≤ slice_index text n)
+white_place bytes text n same within behind = (
+  subst (λ (t : List ℕ). n ≤ length t) same within,
+  λ less high.
+      let here : n < length bytes = omega (arith, less, ap length same) in
+      let low = white_ascii (slice_index text n) (subst (λ (t : List ℕ). is_white (slice_index t n) ≡ true) same (behind n (omega arith) here)) in
+      absurd (omega (arith, low, high)),
+)

@@ -9,7 +9,7 @@ use Rattle.std.proofs.lemmas.Str.{IsCharBoundary-start, IsCharBoundary-before_as
 use Rattle.std.specs.List.{position_or_len}
 use Rattle.std.specs.Prelude.{EachIndex}
 use Rattle.std.specs.Str.{IsUtf8, IsCharBoundary}
-use Rattle.sshkey_entries.specs.Fronts.{without_front}
+use Rattle.sshkey_entries.specs.Fields.{without_front}
 
 no_place : (p : ℕ → Bool) (xs : List ℕ) → position p xs ≡ None → (k : ℕ) → k < length xs → p (get_or xs k 0) ≡ false
 no_place p xs none k l = elim (cases_lt (position_or_len p xs) (length xs)) [

@@ -5,8 +5,7 @@ use Rattle.sshkey_entries.specs.Fields.{without_blanks, AreKeyFields}
 use Rattle.sshkey_entries.specs.KnownHosts.{Marker, CertAuthority, Revoked, marker_text, IsHosts, KnownHost, at_sign}
 use Rattle.sshkey_entries.specs.OpenSshLines.{IsAfterOptions, IsAuthorizedLine, IsMarkedLine, IsHostLine}
 use Rattle.sshkey_entries.proofs.Fields.{same_field, one_fields}
-use Rattle.sshkey_entries.proofs.OneEntry.{one_end, same_entry}
-use Rattle.sshkey_entries.proofs.OneHost.{one_hosts, same_host}
+use Rattle.sshkey_entries.proofs.OneEntry.{one_end, same_entry, one_hosts, same_host}
 
 -- ---- authorized_keys
 

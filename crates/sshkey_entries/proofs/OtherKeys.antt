@@ -13,15 +13,14 @@ use Rattle.sshkey_model.specs.Texts.{string}
 use Rattle.sshkey_model.proofs.Base64Words.{one_blob}
 use Rattle.sshkey_model.proofs.Blobs.{key_blobs}
 use Rattle.sshkey_model.proofs.CombinedReaders.{are_bytes-append, bytes_fit, fits_box, fits_bytes, fits_first, prefix, string_reads}
-use Rattle.sshkey_entries.specs.Fields.{without_blanks, AreKeyFields}
+use Rattle.sshkey_entries.specs.Fields.{without_blanks, AreKeyFields, AreFields}
 use Rattle.sshkey_entries.specs.Entries.{IsNoEntry}
 use Rattle.sshkey_entries.specs.KnownHosts.{Marker, Hosts, IsHosts, at_sign}
 use Rattle.sshkey_entries.specs.OpenSshLines.{IsHostLine, IsOtherHostLine}
 use Rattle.sshkey_entries.specs.OtherKeys.{is_name_character, HasNameCharacters, IsOtherName, SpellsName, AreFieldsUnder, AreForeignKeyFields, AreOtherKeyFields}
-use Rattle.sshkey_entries.specs.KeyFields.{AreFields}
-use Rattle.sshkey_entries.proofs.FieldKeys.{same_parts, same_word}
+use Rattle.sshkey_entries.proofs.KeyFields.{same_parts, same_word}
 use Rattle.sshkey_entries.proofs.Fields.{same_field}
-use Rattle.sshkey_entries.proofs.OneHost.{one_hosts}
+use Rattle.sshkey_entries.proofs.OneEntry.{one_hosts}
 use Rattle.sshkey_entries.proofs.OneOpenSshLine.{one_marked, same_front}
 
 -- ---- steps through a source

@@ -1,5 +1,5 @@
 -- The lines of a text, one by one, and what they leave of its entries.
-use Rattle.std.proofs.Common.{◌≡◌, ◌≢◌, ℕ, ◌<◌, ◌≤◌, ◌+◌, ◌-◌, List, [], ◌∷◌, ◌++◌, length, get_or, take, drop, filter, Bool, true, false, cond, eqb, sym, ap, subst, ◌∙◌, refl, arith, inl, inr, ⊎_elim, eqb-true, eq-eqb, ne_eqb, length-drop, take-append-drop, take_all, lt-ltb, nat_lt, Some}
+use Rattle.std.proofs.Common.{◌≡◌, ◌≢◌, ℕ, ◌<◌, ◌≤◌, ◌+◌, ◌-◌, List, [], ◌∷◌, ◌++◌, length, get_or, take, drop, filter, Bool, true, false, cond, eqb, sym, ap, subst, ◌∙◌, refl, arith, inl, inr, ⊎_elim, eqb-true, eq-eqb, ne_eqb, length-drop, take-append-drop, take_all, lt-ltb, nat_lt, Some, ◌⊎◌, append_assoc, map}
 use Rattle.std.proofs.lemmas.Bool.{cases_lt, eqb-false}
 use Rattle.std.specs.Prelude.{⊤}
 use Rattle.std.specs.Iterator.{MakesProgress, item_count}
@@ -8,11 +8,13 @@ use Rattle.std.proofs.lemmas.List.{nil_from_length, length-append, take-append-l
 use Rattle.std.proofs.lemmas.List.Elements.{All-from_get_or}
 use Rattle.std.proofs.lemmas.List.Splits.{slice_split_none, slice_split_at, length-slice_split}
 use Rattle.std.proofs.lemmas.Str.{NoCharPasses-byte}
-use Rattle.std.specs.List.{All, slice_split}
+use Rattle.std.specs.List.{All, slice_split, AllZip}
 use Rattle.std.specs.Char.{is_newline, encode_utf8}
 use Rattle.std.specs.Str.{NoCharPasses}
 use Rattle.std.specs.Str.Lines.{IsFirstLine, StripsCarriageReturn, lines, lines_of_parts, strip_carriage_return}
 use Rattle.sshkey_entries.specs.Entries.{entry_lines, uncommented, is_some_text}
+use Rattle.sshkey_entries.specs.Answers.{AreEntries, NeedsFirstLine}
+use Rattle.sshkey_entries.specs.Fields.{without_blanks, is_filled, filled_lines}
 
 abbrev is_end : ℕ → Bool
 is_end c = eqb c 10
@@ -91,3 +93,43 @@ pub front_of_front : (line before entry : List ℕ) (p n : ℕ) → before ≡ t
 front_of_front line before entry p n is front l =
     let whole : before ++ drop p line ≡ line = ap (λ (b : List ℕ). b ++ drop p line) is ∙ take-append-drop p line in
     (front ∙ sym (take-append-le n before (drop p line) l) ∙ ap (take n) whole, omega (arith, l, ap length whole, length-append before (drop p line)))
+
+-- What calls of an iterator over entries gave, in order.
+
+module _ {X : Type 0} (R : List ℕ → X → Type 0) where
+  zip_push : (all : List (List ℕ)) (xs : List X) (entry : List ℕ) (x : X) → AllZip R all xs → R entry x → AllZip R (all ++ (entry ∷ [])) (xs ++ (x ∷ []))
+  zip_push [] [] entry x h r = (r, tt)
+  zip_push [] (y ∷ ys) entry x h r = absurd h
+  zip_push (a ∷ all) [] entry x h r = absurd h
+  zip_push (a ∷ all) (y ∷ ys) entry x h r = (h.0, zip_push all ys entry x h.1 r)
+
+  -- one more answer, to the first entry of those that were left
+  pub answered_more : (all before left rest : List (List ℕ)) (xs : List X) (entry : List ℕ) (x : X) → all ≡ before ++ left → AllZip R before xs → left ≡ entry ∷ rest → R entry x
+      → (now : List (List ℕ)) × (all ≡ now ++ rest) × AllZip R now (xs ++ (x ∷ []))
+  answered_more all before left rest xs entry x e h first r = (
+    before ++ (entry ∷ []),
+    e ∙ ap (λ (l : List (List ℕ)). before ++ l) first ∙ sym (append_assoc before (entry ∷ []) rest),
+    zip_push before xs entry x h r,
+  )
+
+-- Lines were read, so that the first has a value; or none was, and the next has a value or needs
+-- memory.
+pub needed_first : {X Y : Type 0} (means : X → Y) (IsEntry : List ℕ → Y → Type 0) (Needs : List ℕ → Type 0) (all before left rest : List (List ℕ)) (xs : List X) (line : List ℕ) → all ≡ before ++ left → AreEntries means IsEntry before xs → left ≡ line ∷ rest
+    → ((y : Y) × IsEntry line y) ⊎ Needs line → NeedsFirstLine IsEntry Needs all
+needed_first means IsEntry Needs all [] left rest xs line e read next need = subst (NeedsFirstLine IsEntry Needs) (sym (e ∙ next)) need
+needed_first means IsEntry Needs all (first ∷ before) left rest [] line e read next need = absurd read
+needed_first means IsEntry Needs all (first ∷ before) left rest (x ∷ xs) line e read next need = subst (NeedsFirstLine IsEntry Needs) (sym e) (inl (means x, read.0))
+
+-- The lines of a text that are neither empty nor comments, one by one.
+
+module _ (text line rest filled : List ℕ) (some : 0 < length text) (is_first : IsFirstLine text line rest) (is : filled ≡ without_blanks line) where
+  step : filled_lines text ≡ cond (is_filled filled) (filled ∷ filled_lines rest) (filled_lines rest)
+  step =
+      ap (λ (all : List (List ℕ)). filter is_filled (map without_blanks all)) (lines_first text line rest some is_first)
+      ∙ ap (λ (l : List ℕ). cond (is_filled l) (l ∷ filled_lines rest) (filled_lines rest)) (sym is)
+
+  pub filled_taken : is_filled filled ≡ true → filled_lines text ≡ filled ∷ filled_lines rest
+  filled_taken e = step ∙ ap (λ (b : Bool). cond b (filled ∷ filled_lines rest) (filled_lines rest)) e
+
+  pub filled_skipped : is_filled filled ≡ false → filled_lines text ≡ filled_lines rest
+  filled_skipped e = step ∙ ap (λ (b : Bool). cond b (filled ∷ filled_lines rest) (filled_lines rest)) e

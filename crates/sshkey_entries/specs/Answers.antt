@@ -1,10 +1,29 @@
--- What a reader of entries answers.
-use Rattle.std.specs.Prelude.{◌≡◌, ◌≢◌, ◌⊎◌, ℕ, List, [], ◌∷◌, ◌++◌, Option, Some, None, Result, Ok, Err, Vec}
+-- What a reader says of a value.
+use Rattle.std.specs.Prelude.{◌≡◌, Option, Some, None, ◌≢◌, ◌⊎◌, ℕ, List, [], ◌∷◌, ◌++◌, Result, Ok, Err, Vec, String, string_bytes}
+use Rattle.sshkey_entries.specs.declared.reading.Reading.{Reading}
+use Rattle.sshkey_entries.specs.declared.reading.Reading.TheVariants.{Is, Rejected, Unclear}
 use Rattle.std.specs.List.{AllZip}
 use Rattle.sshkey_base.specs.Causes.{cause, NoMemory}
 use Rattle.sshkey_base.specs.declared.error.Error.{Error}
 use Rattle.sshkey_entries.specs.Entries.{entries, uncommented, IsNoEntry}
 use denote.Ref.{Bor}
+use Rattle.sshkey_model.specs.Keys.{Key, normal_key}
+use Rattle.sshkey_model.specs.Parts.{BoxesFit}
+use Rattle.sshkey_base.specs.declared.encoding.Error.TheVariants.{Length}
+use Rattle.sshkey_base.specs.declared.error.Error.TheVariants.{Encoding, Memory}
+
+-- This value alone; or none, and that OpenSSH may read one (`May`) is not so, or is.
+abbrev pub Tells : {X Y : Type 0} → (X → Y) → (Y → Type 0) → Type 0 → Reading X → Type 0
+Tells {X} {Y} means Holds May (Is x) = Holds (means x) × ((y : Y) → Holds y → y ≡ means x) × (May → ⊥)
+Tells {X} {Y} means Holds May Rejected = ((y : Y) → Holds y → ⊥) × (May → ⊥)
+Tells {X} {Y} means Holds May Unclear = ((y : Y) → Holds y → ⊥) × May
+
+-- It holds for this value alone; or for none.
+abbrev pub IsTheOne : {X Y : Type 0} → (X → Y) → (Y → Type 0) → Option X → Type 0
+IsTheOne {X} {Y} means Holds None = (y : Y) → Holds y → ⊥
+IsTheOne {X} {Y} means Holds (Some x) = Holds (means x) × ((y : Y) → Holds y → y ≡ means x)
+
+-- What a reader of entries answers.
 
 -- Accepted is the value of the line. Refused for anything but memory, it has none.
 abbrev pub ReadsEntry : {X Y : Type 0} → (X → Y) → (List ℕ → Y → Type 0) → List ℕ → Result X Error → Type 0
@@ -77,3 +96,11 @@ NeedsFirstLine {Y} IsEntry Needs (line ∷ lines) = ((y : Y) × IsEntry line y) 
 abbrev pub AsksEntries : {X Y : Type 0} → (List ℕ → Y → Type 0) → (List ℕ → Type 0) → List (List ℕ) → Result X Error → Type 0
 AsksEntries IsEntry Needs all (Ok x) = Unit {0}
 AsksEntries IsEntry Needs all (Err e) = cause e ≡ NoMemory → NeedsFirstLine IsEntry Needs all
+
+-- What is written of an entry.
+
+-- The text, in which the key stands. `Length` exactly where a part of the key is too long, else
+-- only out of memory.
+abbrev pub MakesEntry : {Z : Type 0} → Key → List ℕ → Result (String Z) Error → Type 0
+MakesEntry k text (Ok s) = BoxesFit (normal_key k) × (string_bytes s ≡ text)
+MakesEntry k text (Err e) = ((BoxesFit (normal_key k) → ⊥) × (e ≡ Encoding Length)) ⊎ (BoxesFit (normal_key k) × (e ≡ Memory))

@@ -2,12 +2,11 @@
 use Rattle.std.specs.Prelude.{◌≡◌, ℕ, List, [], ◌∷◌, ◌++◌, true, false, filter, codes}
 use Rattle.sshkey_model.specs.HexText.{hex}
 use Rattle.sshkey_model.specs.PrivateKeys.{rising}
-use Rattle.sshkey_entries.specs.ConfigOptions.{is_option_character}
+use Rattle.sshkey_entries.specs.AuthorizedKeys.{is_option_character}
 use Rattle.sshkey_entries.specs.Entries.{entries}
-use Rattle.sshkey_entries.specs.Fields.{CutsWord, is_white, without_white}
+use Rattle.sshkey_entries.specs.Fields.{CutsWord, is_white, without_white, is_inside}
 use Rattle.sshkey_entries.specs.Items.{items, patterns}
 use Rattle.sshkey_entries.specs.KnownHosts.{hashed_text}
-use Rattle.sshkey_entries.specs.OptionEnds.{is_inside}
 use Rattle.sshkey_entries.specs.OtherKeys.{IsFormerName}
 
 abbrev line_end : List ℕ

@@ -1,14 +1,43 @@
--- What the lines of known_hosts say of a host's key (sshd(8), "SSH_KNOWN_HOSTS FILE FORMAT";
--- ssh(1), "VERIFYING HOST KEYS").
-use Rattle.std.specs.Prelude.{◌≡◌, ◌⊎◌, ℕ, List, ◌++◌, Option, Some, None}
-use Rattle.std.specs.List.{Any}
+-- Which hosts of a line are for a host (sshd(8), "SSH_KNOWN_HOSTS FILE FORMAT").
+use Rattle.std.specs.Prelude.{◌≡◌, ℕ, List, [], ◌∷◌, ◌++◌, map, slice_index, codes, decimal, length, ◌==◌, if◌then◌else◌, ◌⊎◌, Option, Some, None}
+use Rattle.std.specs.Char.{to_ascii_lowercase}
+use Rattle.std.specs.List.{All, Any}
+use Rattle.sshkey_entries.specs.KnownHosts.{Hosts, Patterns, HashedName, bar, Marker, Revoked, CertAuthority, IsHosts, KnownHost}
+use Rattle.sshkey_entries.specs.Patterns.{IsNamed, IsShortPattern}
 use Rattle.sshkey_model.specs.Keys.{Key}
 use Rattle.sshkey_model.specs.Lines.{IsWithout}
 use Rattle.sshkey_entries.specs.Entries.{IsNoEntry}
 use Rattle.sshkey_entries.specs.Fields.{without_blanks, IsField, EndsField}
-use Rattle.sshkey_entries.specs.HostNames.{AreFor}
-use Rattle.sshkey_entries.specs.KnownHosts.{Marker, Revoked, CertAuthority, Hosts, IsHosts, KnownHost}
 use Rattle.sshkey_entries.specs.OpenSshLines.{IsMarkedLine, IsHostLine, IsOtherHostLine}
+
+-- A bar stands at their front, as in a hash.
+abbrev pub BeginWithBar : List (List ℕ) → Type 0
+BeginWithBar [] = ⊥
+BeginWithBar (pattern ∷ rest) = slice_index pattern 0 ≡ bar
+
+-- The patterns name it, letters in either case, and none of them is too long. OpenSSH takes a bar
+-- at their front for a hash, and knows no other hash.
+pub record AreForName (name : List ℕ) (patterns : List (List ℕ)) : Type 0 where
+  pub named : IsNamed to_ascii_lowercase name patterns
+  pub short : All IsShortPattern patterns
+  pub no_hash : BeginWithBar patterns → ⊥
+
+-- The hosts are for a name: by their patterns, or as its hash under the salt. OpenSSH draws a salt
+-- of 20 bytes, and takes no other.
+abbrev pub AreFor : (List ℕ → List ℕ → List ℕ) → List ℕ → Hosts → Type 0
+AreFor hmac name (Patterns patterns) = AreForName name patterns
+AreFor hmac name (HashedName salt hash) = (length salt ≡ 20) × (hash ≡ hmac salt name)
+
+abbrev pub standard_port : ℕ
+standard_port = 22
+
+-- The name of a host in known_hosts: in small letters, and at another port than the standard one
+-- between brackets, with a colon and the port after them.
+abbrev pub known_name : List ℕ → ℕ → List ℕ
+known_name host port = if port == standard_port then map to_ascii_lowercase host else codes "[" ++ map to_ascii_lowercase host ++ codes "]:" ++ decimal port
+
+-- What the lines of known_hosts say of a host's key (sshd(8), "SSH_KNOWN_HOSTS FILE FORMAT";
+-- ssh(1), "VERIFYING HOST KEYS").
 
 -- The line is an entry with that marker or none, that key, and hosts that are for the name.
 pub record Lists (hmac : List ℕ → List ℕ → List ℕ) (name : List ℕ) (marker : Option Marker) (key : Key) (line : List ℕ) : Type 0 where

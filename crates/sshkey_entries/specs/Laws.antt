@@ -9,7 +9,7 @@ use Rattle.sshkey_entries.specs.KnownHosts.{Marker, Hosts}
 use Rattle.sshkey_entries.specs.OpenSshLines.{IsHostLine, IsOtherHostLine}
 use Rattle.sshkey_entries.specs.OptionItems.{KeyOption, AreKeyOptions}
 use Rattle.sshkey_entries.specs.OtherKeys.{IsOtherName}
-use Rattle.sshkey_entries.specs.OptionEnds.{EndsOptions}
+use Rattle.sshkey_entries.specs.Fields.{EndsOptions}
 
 -- A line is one entry at most.
 abbrev pub EntriesDetermineValues : {Y : Type 0} → (List ℕ → Y → Type 0) → Type 0

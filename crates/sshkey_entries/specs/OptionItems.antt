@@ -4,9 +4,9 @@
 -- commas that stand in a row, or at either end.
 use Rattle.std.specs.Prelude.{◌≡◌, ◌⊎◌, ℕ, ◌<◌, List, [], ◌∷◌, ◌++◌, length, map, slice_index, EachIndex, Bool, true, false, not, ◌&&◌, ◌||◌, ◌==◌, if◌then◌else◌, Option, Some, None}
 use Rattle.std.specs.Char.{to_ascii_lowercase}
-use Rattle.sshkey_entries.specs.Fronts.{without_front}
+use Rattle.sshkey_entries.specs.Fields.{without_front, is_blank, is_plain_quote}
 use Rattle.sshkey_entries.specs.Items.{is_comma, is_quote}
-use Rattle.sshkey_entries.specs.OptionEnds.{is_blank, is_plain_quote}
+use denote.Ref.{Bor}
 
 pub record KeyOption : Type 0 where
   pub name : List ℕ
@@ -107,3 +107,18 @@ MayAdd {Y} Adds MayBe (o ∷ more) s = MayBe o.name o.value ⊎ ((between : Y) �
 -- Such options stand at the front of the text.
 abbrev pub MaySay : {Y : Type 0} → (List ℕ → Option (List ℕ) → Y → Y → Type 0) → (List ℕ → Option (List ℕ) → Type 0) → Y → List ℕ → Type 0
 MaySay Adds MayBe s text = (options : List KeyOption) × StandFirst text options × MayAdd Adds MayBe options s
+
+-- What names in a table stand for.
+
+-- a row of the table that the code has
+abbrev pub row_of : {W : Type 0} → Bor (List ℕ) × W → List ℕ × W
+row_of row = (row.0.now, row.1)
+
+-- The name is the first of these that is the same, letters in either case.
+abbrev pub Names : {W : Type 0} → List (List ℕ × W) → List ℕ → W → Type 0
+Names [] name w = ⊥
+Names (row ∷ more) name w = (IsSameName name row.0 × (w ≡ row.1)) ⊎ ((IsSameName name row.0 → ⊥) × Names more name w)
+
+abbrev pub FindsWord : {W : Type 0} → List (List ℕ × W) → List ℕ → Option W → Type 0
+FindsWord {W} table name None = (w : W) → Names table name w → ⊥
+FindsWord {W} table name (Some w) = Names table name w

@@ -9,8 +9,7 @@ use Rattle.base64.specs.GeneralPurpose.{encode_of, IsBytes}
 use Rattle.sshkey_model.specs.Names.{algorithm_name, algorithms, named}
 use Rattle.sshkey_model.specs.Parts.{flat}
 use Rattle.sshkey_model.specs.Texts.{string}
-use Rattle.sshkey_entries.specs.Fields.{AreNoKeyFields}
-use Rattle.sshkey_entries.specs.KeyFields.{AreFields}
+use Rattle.sshkey_entries.specs.Fields.{AreNoKeyFields, AreFields}
 use Rattle.sshkey_entries.specs.KnownHosts.{at_sign, comma}
 use denote.Ref.{Bor}
 

@@ -1,7 +1,7 @@
 //! What options add to what is said.
 
 ghost use Rattle.std.specs.Prelude.{ℕ, IfOk, List, Option, option_map, string_bytes};
-ghost use Rattle.sshkey_entries.specs.Readings.{Tells};
+ghost use Rattle.sshkey_entries.specs.Answers.{Tells};
 
 use crate::reading::Reading;
 use std::alloc::{AllocError, Global};

@@ -2,9 +2,7 @@
 
 ghost use Rattle.std.specs.List.{suffix_len};
 ghost use Rattle.std.specs.Prelude.{◌≡◌, ◌<◌, ◌≤◌, ◌-◌, ℕ, length, position, not, slice_index, true};
-ghost use Rattle.sshkey_entries.specs.Fields.{CutsWord, is_white, without_blanks};
-ghost use Rattle.sshkey_entries.specs.OptionEnds.{is_blank};
-ghost use Rattle.sshkey_entries.specs.Cuts.{CutsField};
+ghost use Rattle.sshkey_entries.specs.Fields.{CutsWord, is_white, without_blanks, is_blank, CutsField};
 
 use memchr::memchr2;
 

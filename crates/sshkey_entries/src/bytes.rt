@@ -3,9 +3,8 @@
 
 ghost use Rattle.std.specs.Prelude.{◌≡◌, ◌<◌, length, position};
 ghost use Rattle.std.specs.Str.Lines.{strip_carriage_return};
-ghost use Rattle.sshkey_entries.specs.ByteLines.{CutsLine, IsTextOf, is_line_end};
-ghost use Rattle.sshkey_entries.specs.Cuts.{CutsField};
-ghost use Rattle.sshkey_entries.specs.Fields.{CutsWord, is_filled, without_blanks};
+ghost use Rattle.sshkey_entries.specs.Entries.{CutsLine, IsTextOf, is_line_end};
+ghost use Rattle.sshkey_entries.specs.Fields.{CutsField, CutsWord, is_filled, without_blanks};
 
 use crate::blanks::{first_blank, first_other, word_len};
 use memchr::memchr;

@@ -1,5 +1,5 @@
 //! Worked examples of the definitions, on both sides of each edge.
-#![tactic(auto, unfolding(crate::specs::Computed::trim_end, crate::specs::Computed::chars, crate::specs::Computed::encode_utf8, crate::specs::Computed::encode_symbols, crate::specs::Entries::uncommented, crate::specs::Items::is_odd, crate::specs::Items::is_quoted, crate::specs::Items::items, crate::specs::Items::patterns, crate::specs::OptionEnds::is_inside))]
+#![tactic(auto, unfolding(crate::specs::Computed::trim_end, crate::specs::Computed::chars, crate::specs::Computed::encode_utf8, crate::specs::Computed::encode_symbols, crate::specs::Entries::uncommented, crate::specs::Items::is_odd, crate::specs::Items::is_quoted, crate::specs::Items::items, crate::specs::Items::patterns, crate::specs::Fields::is_inside))]
 
 ghost use Rattle.sshkey_entries.specs.EntryExamples.{HashedHosts, Marked, Options};
 ghost use Rattle.sshkey_entries.specs.Examples.{Lines, CommentCuts, FormerNames, Items, Patterns, Characters, HashedName, Quoted, WhiteSpace, WordEnds};

@@ -5,7 +5,7 @@ ghost use Rattle.sshkey_entries.specs.Answers.{RefusesFor};
 ghost use Rattle.sshkey_keys.specs.Keys.{key_of};
 ghost use Rattle.sshkey_model.specs.Lines.{key_name};
 ghost use Rattle.sshkey_base.specs.declared.error.Error.TheVariants as wide;
-ghost use Rattle.sshkey_entries.specs.KeyFields.{AsksKeyFields, HasKeyFault, IsKept, ReadsKeyBytes, ReadsKeyFields};
+ghost use Rattle.sshkey_entries.specs.Fields.{AsksKeyFields, HasKeyFault, IsKept, ReadsKeyBytes, ReadsKeyFields};
 
 use crate::blanks::{skip_blanks, split_blank, split_word};
 use crate::bytes::{self, text_of};

@@ -1,8 +1,7 @@
 //! What names stand for.
 
 ghost use Rattle.std.specs.Prelude.{◌↔◌, IsTrue, map};
-ghost use Rattle.sshkey_entries.specs.OptionItems.{IsSameName};
-ghost use Rattle.sshkey_entries.specs.Words.{FindsWord, row_of};
+ghost use Rattle.sshkey_entries.specs.OptionItems.{IsSameName, FindsWord, row_of};
 
 fn is_same(name: &str, other: &str) -> bool
     ensures { IsTrue result ↔ IsSameName name.now other.now }

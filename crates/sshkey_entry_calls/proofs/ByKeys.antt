@@ -15,8 +15,7 @@ use Rattle.sshkey_model.specs.SignedMessages.{signed_by}
 use Rattle.sshkey_model.specs.SshSignatures.{SshSignature}
 use Rattle.sshkey_model.specs.Verification.{Question, is_yes, question}
 use Rattle.sshkey_sshsig.specs.SshSignatureReaders.{SpellsSshSignature}
-use Rattle.sshkey_entry_calls.specs.Signers.{SaysOf}
-use Rattle.sshkey_entry_calls.specs.SshSignatures.{IsJudgedByKeys, TellsByKeys, is_by}
+use Rattle.sshkey_entry_calls.specs.SshSignatures.{SaysOf, IsJudgedByKeys, TellsByKeys, is_by}
 use Rattle.sshkey_entry_calls.proofs.SignerVerdicts.{back, there}
 
 -- ---- one of the keys

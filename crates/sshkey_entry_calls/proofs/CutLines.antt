@@ -5,12 +5,11 @@ use Rattle.std.proofs.lemmas.List.{length-take-le}
 use Rattle.std.proofs.lemmas.List.Elements.{All-from_get_or}
 use Rattle.std.specs.List.{All}
 use Rattle.std.specs.Str.Lines.{lines, strip_carriage_return}
-use Rattle.sshkey_entries.specs.Fields.{without_blanks, is_filled, filled_lines}
-use Rattle.sshkey_entries.specs.OptionEnds.{is_blank}
+use Rattle.sshkey_entries.specs.Fields.{without_blanks, is_filled, filled_lines, is_blank}
 use Rattle.sshkey_entries.proofs.Fronts as fronts
-use Rattle.sshkey_entries.specs.ByteLines.{CutsLine, IsLineEnd, is_line_end}
+use Rattle.sshkey_entries.specs.Entries.{CutsLine, IsLineEnd, is_line_end}
 use Rattle.sshkey_entries.proofs.ByteLines.{AreBlanks, front_blanks, last_line, line_before, passed, step}
-use Rattle.sshkey_entry_calls.specs.Lines.{FindsLine}
+use Rattle.sshkey_entry_calls.specs.Entries.{FindsLine}
 use Rattle.sshkey_calls.specs.declared.part.Part.{Part}
 
 -- the end of a line is no line of its own

@@ -5,14 +5,13 @@ use Rattle.std.specs.Int.Count.{count_leading_zeros}
 use Rattle.sshkey_base.specs.declared.error.Error.{Error}
 use Rattle.sshkey_krl.specs.KrlRef.{krl_bytes, krl_of}
 use Rattle.sshkey_krl.specs.Krls.{krl_in}
-use Rattle.sshkey_krl.specs.Revocation.{CertificateIdentity, begun}
+use Rattle.sshkey_krl.specs.Revocation.{CertificateIdentity, begun, significant}
 use Rattle.sshkey_krl.specs.Revocation as krl
-use Rattle.sshkey_krl.specs.Serials.{significant}
 use Rattle.sshkey_krl.specs.declared.krl_ref.KrlRef.{KrlRef}
 use Rattle.sshkey_model.specs.Reading.{after_at, box_at, bytes_at, list_within, literal_at, number_at, string_at}
 use Rattle.sshkey_revoked_keys.specs.declared.revoked_keys.RevokedKeys.{RevokedKeys}
 use Rattle.sshkey_revoked_keys.specs.declared.revoked_keys.RevokedKeys.TheVariants.{Keys, Krl}
-use Rattle.sshkey_entry_calls.specs.RevocationFiles.{is_only_nothing, nothing, one_revokes, one_revokes_key}
+use Rattle.sshkey_entry_calls.specs.Revocations.{is_only_nothing, nothing, one_revokes, one_revokes_key}
 
 -- ---- the list
 

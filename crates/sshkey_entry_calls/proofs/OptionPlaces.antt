@@ -5,11 +5,10 @@ use Rattle.std.proofs.lemmas.List.{get_or-append-add, get_or_append_left, get_or
 use Rattle.std.proofs.Math.ListN.{drop_of_length-le}
 use Rattle.std.proofs.Math.Seq.{drop-append_seam, take-append_seam}
 use Rattle.sshkey_entries.specs.Items.{is_comma, is_quote}
-use Rattle.sshkey_entries.specs.OptionEnds.{is_inside, is_plain_quote}
+use Rattle.sshkey_entries.specs.Fields.{is_inside, is_plain_quote}
 use Rattle.sshkey_entries.specs.OptionItems.{AreNameCharacters, EndsOption, IsOptionAt, IsQuoted, IsValueAt, KeyOption, equals_sign, is_name_character, quote, without_commas}
 use Rattle.sshkey_entries.proofs.Fronts.{nothing_stays, skipped, stays}
-use Rattle.sshkey_entries.proofs.OneOption.{quote_front}
-use Rattle.sshkey_entries.proofs.OptionEnds.{inside_first, inside_more}
+use Rattle.sshkey_entries.proofs.OptionItems.{quote_front, inside_first, inside_more}
 use Rattle.sshkey_entry_calls.specs.Options.{EndsAt}
 
 -- ---- one end

@@ -11,7 +11,7 @@ use Rattle.sshkey_model.specs.Certificates.{Certificate}
 use Rattle.sshkey_model.specs.Keys.{normal_key}
 use Rattle.sshkey_model.specs.Parts.{flat}
 use Rattle.sshkey_revoked_keys.specs.declared.revoked_keys.RevokedKeys.{RevokedKeys}
-use Rattle.sshkey_entry_calls.specs.RevocationFiles.{are_read, revoked_status}
+use Rattle.sshkey_entry_calls.specs.Revocations.{are_read, revoked_status}
 
 -- ---- several files
 

@@ -13,7 +13,7 @@ use Rattle.sshkey_model.specs.Certificates.{Certificate, SpellsCertificate}
 use Rattle.sshkey_model.specs.Refusals.{first_refusal_for, is_signed}
 use Rattle.sshkey_model.specs.Verification.{Question}
 use Rattle.sshkey_model.proofs.Refusals.{none_where_wanted}
-use Rattle.sshkey_entry_calls.specs.RevocationFiles.{one_revokes, one_revokes_key}
+use Rattle.sshkey_entry_calls.specs.Revocations.{one_revokes, one_revokes_key}
 use Rattle.sshkey_entry_calls.specs.Hosts.{JudgesCertificate, TellsCertificate, login_with}
 use Rattle.sshkey_entry_calls.specs.declared.host_request.HostRequest as code
 

@@ -6,10 +6,8 @@ use Rattle.std.specs.Str.{IsUtf8}
 use Rattle.sshkey_base.specs.declared.error.Error.{Error}
 use Rattle.sshkey_calls.specs.Fingerprints.{GivesDigestOf}
 use Rattle.sshkey_calls.specs.Numbers.{error_status}
-use Rattle.sshkey_entries.specs.Cuts.{CutsField}
-use Rattle.sshkey_entries.specs.Fields.{AreKeyFields, AreNoKeyFields, without_blanks}
+use Rattle.sshkey_entries.specs.Fields.{CutsField, AreKeyFields, AreNoKeyFields, without_blanks, AreFields, HasKeyFault, NeedsKeyFields}
 use Rattle.sshkey_entries.specs.Items.{is_comma}
-use Rattle.sshkey_entries.specs.KeyFields.{AreFields, HasKeyFault, NeedsKeyFields}
 use Rattle.sshkey_entries.specs.OtherKeys.{AreOtherKeyFields}
 use Rattle.sshkey_model.specs.Keys.{Key}
 use Rattle.sshkey_model.specs.Names.{Sha256}

@@ -1,6 +1,6 @@
 -- What is answered of the entry of a line.
-use Rattle.std.specs.Prelude.{◌≡◌, ◌≢◌, ◌⊎◌, ◌+◌, ℕ, List, ◌++◌, length, Option, Some, None}
-use Rattle.sshkey_authorized_keys.specs.OpenSshNeeds.{NeedsEntry}
+use Rattle.std.specs.Prelude.{◌≡◌, ◌≢◌, ◌⊎◌, ◌+◌, ℕ, List, ◌++◌, length, Option, Some, None, ◌≤◌, ◌-◌, [], ◌∷◌, take, drop}
+use Rattle.sshkey_authorized_keys.specs.OpenSshEntries.{NeedsEntry}
 use Rattle.sshkey_base.specs.declared.error.Error.{Error}
 use Rattle.sshkey_entries.specs.AuthorizedKeys.{AuthorizedKey}
 use Rattle.sshkey_entries.specs.OpenSshLines.{IsAuthorizedLine}
@@ -8,8 +8,10 @@ use Rattle.sshkey_entries.specs.KnownHosts.{CertAuthority, KnownHost, Marker, Re
 use Rattle.sshkey_model.specs.Keys.{Key, normal_key}
 use Rattle.sshkey_model.specs.Parts.{flat}
 use Rattle.sshkey_calls.specs.Numbers.{error_status}
-use Rattle.sshkey_calls.specs.Rooms.{GivesValue, IsPlaced}
+use Rattle.sshkey_calls.specs.Rooms.{GivesValue, IsPlaced, bytes_of}
 use Rattle.sshkey_entry_calls.specs.declared.entries.EntryParts.{EntryParts}
+use Rattle.sshkey_entries.specs.Fields.{filled_lines}
+use Rattle.sshkey_calls.specs.declared.part.Part.{Part}
 
 -- what is told of an entry: what stands before the key, the key's normal form, the comment, and the
 -- marker's number
@@ -58,3 +60,14 @@ TellsFault HasFault line n = n ≢ 0 → n ≢ 1 → n ≢ 2 → (e : Error) × 
 -- Memory may be asked for: by the fields of the line, or for the entry that it is.
 abbrev pub NeedsAuthorizedEntry : List ℕ → Type 0
 NeedsAuthorizedEntry line = NeedsEntry line ⊎ ((a : AuthorizedKey) × IsAuthorizedLine line a)
+
+-- What is answered of the lines of a text.
+
+-- 0 and the first of the filled lines from that place on, which lies there; none comes before it,
+-- and the others are found after it. 3 exactly if there is none, and then the part is as it was.
+pub record FindsLine (text : List ℕ) (place n : ℕ) (was part : Part) : Type 0 where
+  pub found : n ≡ 0 → filled_lines (drop place text) ≡ bytes_of part text ∷ filled_lines (drop (part.start + part.length) text)
+  pub within : n ≡ 0 → (place ≤ part.start) × (part.start + part.length ≤ length text)
+  pub first : n ≡ 0 → filled_lines (take (part.start - place) (drop place text)) ≡ []
+  pub none : n ≢ 0 → (filled_lines (drop place text) ≡ []) × (n ≡ 3)
+  pub stays : n ≢ 0 → part ≡ was

@@ -1,5 +1,7 @@
--- What is answered of the key or the certificate that a host shows (ssh(1), "VERIFYING HOST KEYS").
-use Rattle.std.specs.Prelude.{◌≡◌, ◌≢◌, ◌++◌, ℕ, List, Bool, Some, Result, Ok, Err, if◌then◌else◌}
+-- What is answered where nothing can be asked about a host.
+use Rattle.std.specs.Prelude.{ℕ, ◌≡◌, ◌≢◌, ◌++◌, List, Bool, Some, Result, Ok, Err, if◌then◌else◌, ◌⊎◌, Option, None}
+use Rattle.sshkey_matching.specs.declared.host.HostFault.{HostFault}
+use Rattle.sshkey_matching.specs.declared.host.HostFault.TheVariants.{Address, Empty, Memory, Port}
 use Rattle.std.specs.Str.{is_utf8}
 use Rattle.host_keys.specs.Answers.{RefusesHostCertificate, RefusesHostKey}
 use Rattle.host_keys.specs.Hosts as hosts
@@ -10,11 +12,10 @@ use Rattle.host_keys.specs.declared.refusal.HostRefusal.{HostRefusal}
 use Rattle.host_keys.specs.declared.refusal.HostRefusal.TheVariants as refusal
 use Rattle.sshkey_base.specs.declared.error.Error.{Error}
 use Rattle.sshkey_calls.specs.Numbers.{certificate_error_status, refusal_status}
-use Rattle.sshkey_calls.specs.Outcomes.{TellsOf}
+use Rattle.sshkey_calls.specs.Rooms.{TellsOf}
 use Rattle.sshkey_calls.specs.Validations.{SaysWhether, Verified}
 use Rattle.sshkey_cert.specs.Validity.{refusal_of}
-use Rattle.sshkey_entry_calls.specs.AskedHosts.{host_fault_status}
-use Rattle.sshkey_entry_calls.specs.RevocationFiles.{AreReadOf, are_read, one_revokes, one_revokes_key}
+use Rattle.sshkey_entry_calls.specs.Revocations.{AreReadOf, are_read, one_revokes, one_revokes_key}
 use Rattle.sshkey_entries.specs.Fields.{filled_lines}
 use Rattle.sshkey_known_hosts.specs.Hmac.{hmac_sha1}
 use Rattle.sshkey_model.specs.Certificates.{certificate_at, SpellsCertificate}
@@ -22,6 +23,18 @@ use Rattle.sshkey_model.specs.Keys.{Key, SpellsKey, key_data_at}
 use Rattle.sshkey_model.specs.Verification.{Question}
 use Rattle.sshkey_revoked_keys.specs.declared.revoked_keys.RevokedKeys.{RevokedKeys}
 use Rattle.sshkey_entry_calls.specs.declared.host_request.HostRequest.{HostRequest}
+use Rattle.std.specs.Str.Lines.{lines}
+use Rattle.sshkey_matching.specs.AskedHosts.{IsAsked, IsHostFault}
+use Rattle.sshkey_entries.specs.HostVerdicts.{known_name}
+use Rattle.sshkey_known_hosts.specs.Verdicts.{HidesEntryIn, IsNumberOfFirst}
+
+abbrev pub host_fault_status : HostFault → ℕ
+host_fault_status Port = 100
+host_fault_status Empty = 101
+host_fault_status Address = 102
+host_fault_status Memory = 1
+
+-- What is answered of the key or the certificate that a host shows (ssh(1), "VERIFYING HOST KEYS").
 
 -- ---- what is known
 
@@ -111,3 +124,20 @@ TellsCertificate l lines bytes is_verified by n = n ≢ 1 → (reads : List (Res
 -- It is told of the certificate that the bytes spell.
 abbrev pub TellsHostCertificate : HostRequest → List (List ℕ) → List ℕ → ℕ → ℕ → ℕ → Type 0
 TellsHostCertificate l lines bytes is_verified by n = TellsOf SpellsCertificate certificate_at bytes (λ c. TellsCertificate l lines bytes is_verified by n) n (Unit {0})
+
+-- What is answered of the lines of a text of known_hosts that cannot be read.
+
+-- the number of the first line of the text that is no entry and could be one for the host at the port
+abbrev pub IsUnreadableLine : List ℕ → List ℕ → ℕ → Option ℕ → Type 0
+IsUnreadableLine text host port = IsNumberOfFirst (HidesEntryIn hmac_sha1 (known_name host port)) (lines text)
+
+-- 0 says that this is the number, and 3 that there is none; 1 is memory.
+pub record TellsLine (text name : List ℕ) (port n number : ℕ) : Type 0 where
+  pub found : n ≡ 0 → IsUnreadableLine text name port (Some number)
+  pub none : n ≡ 3 → IsUnreadableLine text name port None
+  pub others : n ≢ 1 → (n ≡ 0) ⊎ (n ≡ 3)
+
+-- It is told of the host by the name that is asked; or nothing can be asked about it, for the fault
+-- of that number.
+abbrev pub TellsUnreadableLine : List ℕ → List ℕ → ℕ → ℕ → ℕ → Type 0
+TellsUnreadableLine text host port n number = ((name : List ℕ) × IsAsked host port name × TellsLine text name port n number) ⊎ ((f : HostFault) × IsHostFault host port f × (n ≡ host_fault_status f))

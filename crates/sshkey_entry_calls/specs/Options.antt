@@ -1,10 +1,10 @@
 -- What is answered of the options of an entry.
 use Rattle.std.specs.Prelude.{◌≡◌, ◌≢◌, ◌↔◌, ◌≤◌, ◌<◌, ℕ, List, [], ◌++◌, length, drop, take, slice_index, true, false, Option, Some, None}
 use Rattle.std.specs.Str.{IsUtf8}
-use Rattle.sshkey_authorized_keys.specs.OpenSshItems.{key_option_of}
+use Rattle.sshkey_authorized_keys.specs.Options.{key_option_of}
 use Rattle.sshkey_authorized_keys.specs.declared.openssh_option.OpenSshOption.{OpenSshOption}
 use Rattle.sshkey_entries.specs.Items.{is_comma}
-use Rattle.sshkey_entries.specs.OptionEnds.{is_inside}
+use Rattle.sshkey_entries.specs.Fields.{is_inside}
 use Rattle.sshkey_entries.specs.OptionItems.{IsNoOption, IsOptionAt, KeyOption, without_commas}
 use Rattle.sshkey_calls.specs.Rooms.{GivesValue, IsAtFront, IsPlaced, LacksRoom}
 use Rattle.sshkey_entry_calls.specs.declared.options.OptionParts.{OptionParts}

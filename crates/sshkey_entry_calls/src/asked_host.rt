@@ -1,7 +1,7 @@
 //! The number of what is wrong with a host that is asked about.
 
 ghost use Rattle.std.specs.Prelude.{◌≡◌, ◌≢◌};
-ghost use Rattle.sshkey_entry_calls.specs.AskedHosts.{host_fault_status};
+ghost use Rattle.sshkey_entry_calls.specs.Hosts.{host_fault_status};
 
 use sshkey_calls::number::MEMORY;
 use sshkey_matching::HostFault;

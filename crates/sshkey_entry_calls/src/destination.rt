@@ -1,6 +1,6 @@
 //! A host and a port in a text.
 
-ghost use Rattle.sshkey_entries.specs.Readings.{IsTheOne};
+ghost use Rattle.sshkey_entries.specs.Answers.{IsTheOne};
 ghost use Rattle.sshkey_entry_calls.specs.Destinations.{IsDestination, IsInBrackets, IsPlain, destination_of};
 
 use crate::numbers::read_port;

@@ -2,10 +2,10 @@
 
 ghost use Rattle.std.specs.Prelude.{◌≡◌, IfOk, option_map};
 ghost use Rattle.sshkey_authorized_keys.specs.OpenSshEntries.{openssh_entry_of};
-ghost use Rattle.sshkey_authorized_keys.specs.OpenSshFaults as keys;
+ghost use Rattle.sshkey_authorized_keys.specs.OpenSshEntries as keys;
 ghost use Rattle.sshkey_entries.specs.OpenSshLines.{IsAuthorizedLine, IsHostLine};
 ghost use Rattle.sshkey_known_hosts.specs.HostEntries.{known_host_of, marker_of};
-ghost use Rattle.sshkey_known_hosts.specs.OpenSshHosts as hosts;
+ghost use Rattle.sshkey_known_hosts.specs.HostEntries as hosts;
 ghost use Rattle.sshkey_public.specs.PublicKeys.{comment_of, public_of};
 ghost use Rattle.sshkey_calls.specs.Rooms.{IsLaidOut};
 ghost use Rattle.sshkey_entry_calls.specs.Entries.{ArePlaced, FindsEntry, NeedsAuthorizedEntry, TellsFault, content_of, entry_text, marker_number, of_authorized_key, of_known_host};

@@ -2,7 +2,7 @@
 
 ghost use Rattle.std.specs.Prelude.{◌≡◌, ◌≢◌, true, length};
 ghost use Rattle.host_keys.specs.Hosts.{lines_of};
-ghost use Rattle.sshkey_known_hosts.specs.LinePlaces.{ArePlacesOf, total_length};
+ghost use Rattle.sshkey_known_hosts.specs.HeldLines.{ArePlacesOf, total_length};
 ghost use Rattle.sshkey_entry_calls.specs.Hosts.{JudgesCertificate, are_texts, held_lines};
 
 use crate::host_answer::{tell_known, tell_unknown};

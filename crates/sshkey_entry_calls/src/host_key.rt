@@ -1,10 +1,10 @@
 //! Whether a key is a host's.
 
 ghost use Rattle.std.specs.Prelude.{◌≡◌, true, length};
-ghost use Rattle.sshkey_keys_ref.specs.KeyDataRef.{key_bytes};
+ghost use Rattle.sshkey_keys_ref.specs.Keys.{key_bytes};
 ghost use Rattle.sshkey_model.specs.Keys.{Key, SpellsKey};
 ghost use Rattle.host_keys.specs.Hosts.{lines_of};
-ghost use Rattle.sshkey_known_hosts.specs.LinePlaces.{ArePlacesOf, total_length};
+ghost use Rattle.sshkey_known_hosts.specs.HeldLines.{ArePlacesOf, total_length};
 ghost use Rattle.sshkey_entry_calls.specs.Hosts.{TellsKey, are_texts, held_lines};
 
 use crate::host_answer::answer_status;

@@ -2,10 +2,9 @@
 
 ghost use Rattle.std.specs.Prelude.{◌≡◌, length, IfOk, true};
 ghost use Rattle.std.specs.Str.{is_utf8};
-ghost use Rattle.host_keys.specs.HeldHosts.{SayTheSame};
-ghost use Rattle.host_keys.specs.Hosts.{lines_of, login_of};
+ghost use Rattle.host_keys.specs.Hosts.{SayTheSame, lines_of, login_of};
 ghost use Rattle.sshkey_known_hosts.specs.Hmac.{hmac_sha1};
-ghost use Rattle.sshkey_known_hosts.specs.LinePlaces.{ArePlacesOf, total_length};
+ghost use Rattle.sshkey_known_hosts.specs.HeldLines.{ArePlacesOf, total_length};
 ghost use Rattle.sshkey_entry_calls.specs.Hosts.{are_texts, held_lines, login_with};
 
 use sshkey_known_hosts::PlacedText;

@@ -2,7 +2,7 @@
 
 ghost use Rattle.std.specs.Prelude.{MatchOption};
 ghost use Rattle.std.specs.Net.Grammar.{IsNumber};
-ghost use Rattle.sshkey_entries.specs.Readings.{IsTheOne};
+ghost use Rattle.sshkey_entries.specs.Answers.{IsTheOne};
 ghost use Rattle.sshkey_entry_calls.specs.Destinations.{IsNoNumber, IsPort};
 
 /// The greatest port.

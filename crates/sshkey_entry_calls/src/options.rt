@@ -1,9 +1,9 @@
 //! The options of an entry of authorized_keys, one after the other.
 
 ghost use Rattle.std.specs.Prelude.{◌≡◌, ◌<◌, IfOk, length, not, position};
-ghost use Rattle.sshkey_authorized_keys.specs.OpenSshItems.{key_option_of};
+ghost use Rattle.sshkey_authorized_keys.specs.Options.{key_option_of};
 ghost use Rattle.sshkey_entries.specs.Items.{is_comma};
-ghost use Rattle.sshkey_entries.specs.OptionEnds.{is_plain_quote};
+ghost use Rattle.sshkey_entries.specs.Fields.{is_plain_quote};
 ghost use Rattle.sshkey_entries.specs.OptionItems.{without_commas};
 ghost use Rattle.sshkey_calls.specs.Rooms.{IsLaidOut};
 ghost use Rattle.sshkey_entry_calls.specs.Options.{ArePlaced, EndsAt, FindsFirst, TellsOption, option_bytes};

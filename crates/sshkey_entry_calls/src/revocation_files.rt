@@ -4,9 +4,9 @@ ghost use Rattle.std.specs.List.{AllZip};
 ghost use Rattle.std.specs.Prelude.{◌≡◌, ◌<◌, ℕ, IfErr, IfOk, List, false, length, true};
 ghost use Rattle.sshkey_base.specs.declared.error.Error.TheVariants as error;
 ghost use Rattle.sshkey_krl.specs.Revocation.{CertificateIdentity, certificate_identity};
-ghost use Rattle.sshkey_entry_calls.specs.RevocationFiles as files;
+ghost use Rattle.sshkey_entry_calls.specs.Revocations as files;
 ghost use Rattle.sshkey_entry_calls.specs.declared.revocation_files.RevocationFiles as declared;
-ghost use Rattle.sshkey_entry_calls.specs.RevocationFiles.{AreReadOf, IsReadOf, NeedsFile, NeedsFiles, are_read, is_nothing, is_only_nothing, reads_of, revoked_status};
+ghost use Rattle.sshkey_entry_calls.specs.Revocations.{AreReadOf, IsReadOf, NeedsFile, NeedsFiles, are_read, is_nothing, is_only_nothing, reads_of, revoked_status};
 
 use sshkey_base::{Error, Result, encoding};
 use sshkey_calls::number::{REVOKED, UNREADABLE_REVOCATIONS};

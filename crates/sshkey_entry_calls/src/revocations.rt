@@ -9,11 +9,10 @@ ghost use Rattle.sshkey_model.specs.Certificates.{certificate_at, SpellsCertific
 ghost use Rattle.sshkey_model.specs.Keys.{normal_key, SpellsKey, key_data_at};
 ghost use Rattle.sshkey_model.specs.Parts.{flat};
 ghost use Rattle.sshkey_model.specs.Reading.{Fault, whole};
-ghost use Rattle.sshkey_calls.specs.NormalForms.{IsRenamedKey};
+ghost use Rattle.sshkey_calls.specs.Writing.{IsRenamedKey};
 ghost use Rattle.sshkey_calls.specs.Numbers.{fault_number};
 ghost use Rattle.sshkey_calls.specs.Revocations.{TellsRevoked};
-ghost use Rattle.sshkey_entry_calls.specs.RevocationFiles.{one_revokes, one_revokes_key, reads_of};
-ghost use Rattle.sshkey_entry_calls.specs.Revocations.{IsWhether};
+ghost use Rattle.sshkey_entry_calls.specs.Revocations.{one_revokes, one_revokes_key, reads_of, IsWhether};
 
 use crate::revocation_files::RevocationFiles;
 use sshkey_base::{Error, Result, encode_vec};

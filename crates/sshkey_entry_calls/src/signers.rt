@@ -3,8 +3,8 @@
 ghost use Rattle.std.specs.Prelude.{◌≡◌, ◌≢◌, [], Err, List, Result};
 ghost use Rattle.sshkey_base.specs.declared.error.Error.{Error};
 ghost use Rattle.sshkey_revoked_keys.specs.declared.revoked_keys.RevokedKeys.{RevokedKeys};
-ghost use Rattle.sshkey_entry_calls.specs.RevocationFiles.{AreReadOf, one_revokes_key, revoked_status};
-ghost use Rattle.sshkey_entry_calls.specs.Signers.{IsJudged, verdict_status};
+ghost use Rattle.sshkey_entry_calls.specs.Revocations.{AreReadOf, one_revokes_key, revoked_status};
+ghost use Rattle.sshkey_entry_calls.specs.SshSignatures.{IsJudged, verdict_status};
 
 use crate::revocation_files::RevocationFiles;
 use allowed_signers::{SignerRefusal, verify};

@@ -2,7 +2,7 @@
 
 ghost use Rattle.std.specs.Prelude.{◌≡◌, ◌≢◌, ◌<◌, ◌⊎◌, None, Some, length};
 ghost use Rattle.sshkey_entries.specs.Fields.{filled_lines};
-ghost use Rattle.sshkey_entry_calls.specs.UnreadableLines.{TellsLine};
+ghost use Rattle.sshkey_entry_calls.specs.Hosts.{TellsLine};
 
 use sshkey_calls::number::{DONE, END, MEMORY};
 use sshkey_known_hosts::{HmacSha1, unreadable_line};

@@ -2,9 +2,9 @@
 
 ghost use Rattle.std.specs.Prelude.{◌≡◌};
 ghost use Rattle.sshkey_keys.specs.KeyKinds.{is_dsa};
-ghost use Rattle.sshkey_keys_ref.specs.KeyDataRef.{key_bytes};
+ghost use Rattle.sshkey_keys_ref.specs.Keys.{key_bytes};
 ghost use Rattle.sshkey_model.specs.Keys.{Key, SpellsKey};
-ghost use Rattle.sshkey_entry_calls.specs.Verifiers.{verifier_number};
+ghost use Rattle.sshkey_entry_calls.specs.Trust.{verifier_number};
 
 use openssh_limits::is_read_key_ref;
 use sshkey_calls::number::{DONE, KEY_NOT_ACCEPTED};

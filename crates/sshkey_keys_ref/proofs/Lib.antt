@@ -1,10 +1,4 @@
-pub mod Accepting
-pub mod Spelled
-pub mod Slices
+pub mod Acceptance
 pub mod WalkedBodies
-pub mod PlainHeads
-pub mod DigestedKeys
-pub mod KeysByKind
-pub mod Dispatching
-pub mod Asking
-pub mod KeysOfOneSize
+pub mod Keys
+pub mod Signatures

@@ -1,5 +1,7 @@
--- Bodies that a walk over a slice takes.
-use Rattle.std.proofs.Common.{◌≡◌, ℕ, List, ◌++◌, None, Result, Ok, Err, IfErr, true, refl, subst}
+-- The front that a walk over a slice passed.
+use Rattle.std.proofs.Common.{◌≡◌, ◌≤◌, List, ℕ, length, take, ◌∙◌, ap, arith, ◌-◌, ◌++◌, None, Result, Ok, Err, IfErr, true, refl, subst}
+use Rattle.std.proofs.lemmas.List.{length-append, take_at}
+use Rattle.sshkey_keys_ref.specs.Taking.{StandsAfter, IsFrontOf, Skips}
 use denote.Ref.{Bor}
 use Rattle.sshkey_model.specs.Reading.{Fault, Front, Whole, string_at, bytes_at, checked_at, after_at}
 use Rattle.sshkey_model.specs.Names.{Algorithm, named, algorithm_from}
@@ -15,8 +17,19 @@ use Rattle.sshkey_base.specs.Source.{all_of}
 use Rattle.sshkey_model.specs.Signatures.{signature_at, signature_blob_at, trailed_at}
 use Rattle.sshkey_model.specs.Labels.{label_at}
 use Rattle.sshkey_terms.specs.Slices.{is_taken}
-use Rattle.sshkey_keys_ref.specs.Taking.{Skips}
-use Rattle.sshkey_keys_ref.specs.CertifiedBodies.{certified_body_at}
+use Rattle.sshkey_keys_ref.specs.Keys.{certified_body_at}
+
+-- the bytes that were taken: those that the rest lacks
+pub front_is : {Y : Type 0} {Spells : Y → List ℕ → Type 0} {b rest : List ℕ} → StandsAfter Spells b rest → IsFrontOf Spells b (take (length b - length rest) b) rest
+front_is {Y} {Spells} {b} {rest} t =
+    let k : length t.front ≡ length b - length rest = omega (arith, ap length t.all, length-append t.front rest) in
+    let front : take (length b - length rest) b ≡ t.front = ap (take (length b - length rest)) t.all ∙ take_at t.front rest (length b - length rest) k in
+    rw front (record { value = t.value; spelled = t.spelled; all = t.all })
+
+pub leaves : {Y : Type 0} {Spells : Y → List ℕ → Type 0} {b rest : List ℕ} → StandsAfter Spells b rest → length rest ≤ length b
+leaves {Y} {Spells} {b} {rest} t = omega (arith, ap length t.all, length-append t.front rest)
+
+-- Bodies that a walk over a slice takes.
 
 pub skips_opaque : {E : Type 0} (cause : E → Cause) (n b : List ℕ) (r : Result (Bor (List ℕ)) E) → Skips cause string_at b r → Skips cause (body_at (Algorithm.Other n)) b r
 skips_opaque cause n b (Ok rest) h = (Opaque n h.0, rw h.1 refl)

@@ -1,10 +1,3 @@
 pub mod Taking
-pub mod Kinds
-pub mod NameRef
-pub mod CertifiedBodies
-pub mod NormalBytes
-pub mod KeyFingerprints
-pub mod KeyDataRef
-pub mod KeyRef
-pub mod Dispatch
-pub mod SignatureRef
+pub mod Keys
+pub mod Signatures

@@ -7,11 +7,8 @@ ghost use Rattle.sshkey_model.specs.Signatures.{IsSignatureBlob, Signature};
 ghost use Rattle.sshkey_model.specs.Verification.{asked, asked_within, question_under};
 ghost use Rattle.sshkey_keys.specs.Keys.{key_of};
 ghost use Rattle.sshkey_keys.specs.KeyKinds.{is_security_key};
-ghost use Rattle.sshkey_keys_ref.specs.Dispatch.{AnswersKey, AreAccepted, AsksBytes, DispatchesBytes, IsAskedAs, IsBlobIn, signature_by};
-ghost use Rattle.sshkey_keys_ref.specs.KeyDataRef.{key_bytes};
-ghost use Rattle.sshkey_keys_ref.specs.KeyRef.{Means};
-ghost use Rattle.sshkey_keys_ref.specs.NameRef.{named_of};
-ghost use Rattle.sshkey_keys_ref.specs.SignatureRef.{signature_bytes};
+ghost use Rattle.sshkey_keys_ref.specs.Signatures.{AnswersKey, AreAccepted, AsksBytes, DispatchesBytes, IsAskedAs, IsBlobIn, signature_by, signature_bytes};
+ghost use Rattle.sshkey_keys_ref.specs.Keys.{key_bytes, Means, named_of};
 
 use crate::key_data_ref::KeyDataRef;
 use crate::key_ref::{KeyRef, key_in};

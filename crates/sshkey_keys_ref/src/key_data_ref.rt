@@ -7,9 +7,7 @@ ghost use Rattle.sshkey_base.specs.Causes.{NoMemory, cause};
 ghost use Rattle.sshkey_base.specs.Names.{algorithm_of as named_algorithm, hash_of};
 ghost use Rattle.sshkey_model.specs.Reading.{whole};
 ghost use Rattle.sshkey_model.specs.Keys.{SpellsKey, key_data_at};
-ghost use Rattle.sshkey_keys_ref.specs.KeyFingerprints.{GivesFingerprintOf};
-ghost use Rattle.sshkey_keys_ref.specs.NormalBytes.{GivesNormal, HasPlainHead, is_hashed};
-ghost use Rattle.sshkey_keys_ref.specs.NameRef.{named_of};
+ghost use Rattle.sshkey_keys_ref.specs.Keys.{GivesFingerprintOf, GivesNormal, HasPlainHead, is_hashed, named_of};
 ghost use Rattle.sshkey_keys_ref.specs.Taking.{Skips};
 ghost use Rattle.sshkey_terms.specs.Slices.{AcceptsSome, is_taken};
 
@@ -37,8 +35,7 @@ impl<'a> KeyDataRef<'a> {
     ghost use Rattle.sshkey_model.specs.Keys.{Key};
     ghost use Rattle.sshkey_keys.specs.KeyKinds.{is_ecdsa, is_ed25519};
     ghost use Rattle.sshkey_keys.specs.Keys.{key_of};
-    ghost use Rattle.sshkey_keys_ref.specs.KeyDataRef.{key_bytes};
-    ghost use Rattle.sshkey_keys_ref.specs.KeyRef.{Means};
+    ghost use Rattle.sshkey_keys_ref.specs.Keys.{key_bytes, Means};
     ghost use Rattle.sshkey_terms.specs.Slices.{Keeps};
 
     /// The key that all the bytes together spell, read once from left to right. Does not allocate.

@@ -34,7 +34,7 @@ pub struct RsaRef<'a> {
 
 #[tactic(auto, using(sshkey_kinds::proofs::Lawful::rsa_lawful, sshkey_terms::proofs::Walking::walking), unfolding(sshkey_model::specs::Reading::after_at))]
 impl<'a> ReadFrom<&'a [u8]> for RsaRef<'a> {
-    ghost use Rattle.sshkey_keys_ref.specs.Kinds.{rsa_of};
+    ghost use Rattle.sshkey_keys_ref.specs.Keys.{rsa_of};
 
     type Error = Error;
 
@@ -66,7 +66,7 @@ pub struct DsaRef<'a> {
 
 #[tactic(auto, using(sshkey_kinds::proofs::Lawful::dsa_lawful, sshkey_terms::proofs::Walking::walking), unfolding(sshkey_model::specs::Reading::after_at))]
 impl<'a> ReadFrom<&'a [u8]> for DsaRef<'a> {
-    ghost use Rattle.sshkey_keys_ref.specs.Kinds.{dsa_of};
+    ghost use Rattle.sshkey_keys_ref.specs.Keys.{dsa_of};
 
     type Error = Error;
 
@@ -194,7 +194,7 @@ pub struct SkEcdsaRef<'a> {
 
 #[tactic(auto, using(sshkey_kinds::proofs::Lawful::sk_ecdsa_lawful, sshkey_terms::proofs::Walking::walking), unfolding(sshkey_model::specs::Reading::after_at, sshkey_model::specs::Labels::label_at))]
 impl<'a> ReadFrom<&'a [u8]> for SkEcdsaRef<'a> {
-    ghost use Rattle.sshkey_keys_ref.specs.Kinds.{sk_ecdsa_of};
+    ghost use Rattle.sshkey_keys_ref.specs.Keys.{sk_ecdsa_of};
 
     type Error = Error;
 
@@ -249,7 +249,7 @@ pub struct SkEd25519Ref<'a> {
 
 #[tactic(auto, using(sshkey_kinds::proofs::Lawful::sk_ed25519_lawful, sshkey_terms::proofs::Walking::walking), unfolding(sshkey_model::specs::Reading::after_at))]
 impl<'a> ReadFrom<&'a [u8]> for SkEd25519Ref<'a> {
-    ghost use Rattle.sshkey_keys_ref.specs.Kinds.{sk_ed25519_of};
+    ghost use Rattle.sshkey_keys_ref.specs.Keys.{sk_ed25519_of};
 
     type Error = Error;
 

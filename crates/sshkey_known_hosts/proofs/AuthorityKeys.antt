@@ -1,9 +1,8 @@
 -- Which keys are those of authorities, line by line.
 use Rattle.std.proofs.Common.{◌≡◌, ◌⊎◌, ℕ, List, [], ◌∷◌, ◌++◌, Option, None, Some, option_map, true, false, inl, inr, refl, sym, ap, subst, ◌↔◌, ◌∙◌, append-nil, arith}
 use Rattle.std.specs.List.{Any}
-use Rattle.sshkey_entries.specs.HostNames.{AreFor}
-use Rattle.sshkey_entries.specs.HostVerdicts.{IsAuthority, Lists}
-use Rattle.sshkey_entries.specs.KeyFields.{IsKept}
+use Rattle.sshkey_entries.specs.HostVerdicts.{AreFor, IsAuthority, Lists}
+use Rattle.sshkey_entries.specs.Fields.{IsKept}
 use Rattle.sshkey_entries.specs.KnownHosts.{KnownHost, CertAuthority}
 use Rattle.sshkey_entries.specs.OpenSshLines.{IsHostLine}
 use Rattle.sshkey_model.specs.Keys.{Key}

@@ -21,20 +21,15 @@ use Rattle.sshkey_model.proofs.Base64Words.{is_other_than}
 use Rattle.sshkey_model.proofs.CombinedReaders.{bytes_fit}
 use Rattle.sshkey_model.proofs.KeyReaders.{key_reads}
 use Rattle.sshkey_model.proofs.LineTests.{all_characters, each, lacks}
-use Rattle.sshkey_matching.specs.Commas.{patterns}
+use Rattle.sshkey_matching.specs.Patterns.{patterns}
 use Rattle.sshkey_matching.proofs.PatternTests.{decides_all, decides_list, matches_list}
 use Rattle.sshkey_entries.specs.Entries.{hash_sign}
-use Rattle.sshkey_entries.specs.Cuts.{CutsField}
-use Rattle.sshkey_entries.specs.Fields.{AreKeyFields, AreNoKeyFields, CutsWord, EndsField, IsField, without_blanks}
-use Rattle.sshkey_entries.specs.Fronts.{without_front}
-use Rattle.sshkey_entries.specs.HostNames.{AreFor, AreForName, BeginWithBar}
-use Rattle.sshkey_entries.specs.KeyFields.{AreFields}
-use Rattle.sshkey_entries.specs.HostVerdicts.{HidesEntry, IsAuthority, IsForOthers, Lists}
+use Rattle.sshkey_entries.specs.Fields.{CutsField, AreKeyFields, AreNoKeyFields, CutsWord, EndsField, IsField, without_blanks, without_front, AreFields, is_blank}
+use Rattle.sshkey_entries.specs.HostVerdicts.{AreFor, AreForName, BeginWithBar, HidesEntry, IsAuthority, IsForOthers, Lists}
 use Rattle.sshkey_entries.specs.KnownHosts.{ArePatterns, CertAuthority, HashedName, Hosts, IsHosts, Marker, Patterns, Revoked, after_marker, at_sign, bar, hashed_mark, hashed_text, marker_text}
 use Rattle.sshkey_entries.specs.OpenSshLines.{EndsMarker, IsHostLine, IsMarkedLine}
-use Rattle.sshkey_entries.specs.OptionEnds.{is_blank}
 use Rattle.sshkey_entries.specs.OtherKeys.{AreForeignKeyFields, IsFormerName, IsOtherName}
-use Rattle.sshkey_entries.proofs.FieldKeys.{no_word}
+use Rattle.sshkey_entries.proofs.KeyFields.{no_word}
 use Rattle.sshkey_entries.proofs.Fronts.{skipped, stays}
 use Rattle.sshkey_entries.proofs.OtherKeys.{named_under}
 use Rattle.sshkey_known_hosts.specs.Examples.{Say, SaysNothing, SaysOfKeys, broken_line, host, key_text, line, other_line, other_text}

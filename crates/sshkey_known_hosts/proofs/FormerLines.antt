@@ -20,16 +20,14 @@ use Rattle.sshkey_model.proofs.Grammars.{grammar_with, read_alone}
 use Rattle.sshkey_model.proofs.KeyReaders.{key_reads}
 use Rattle.sshkey_model.proofs.LawfulReaders.{done, ok_is}
 use Rattle.sshkey_model.proofs.LineTests.{all_characters}
-use Rattle.sshkey_matching.specs.Commas.{patterns}
+use Rattle.sshkey_matching.specs.Patterns.{patterns}
 use Rattle.sshkey_public.specs.Lines.{IsNoWord}
-use Rattle.sshkey_entries.specs.Fields.{AreNoKeyFields, without_blanks}
-use Rattle.sshkey_entries.specs.Fronts.{without_front}
+use Rattle.sshkey_entries.specs.Fields.{AreNoKeyFields, without_blanks, without_front, AreFields}
 use Rattle.sshkey_entries.specs.HostVerdicts.{HidesEntry}
-use Rattle.sshkey_entries.specs.KeyFields.{AreFields}
 use Rattle.sshkey_entries.specs.KnownHosts.{Marker, Patterns, after_marker}
 use Rattle.sshkey_entries.specs.OpenSshLines.{IsOtherHostLine}
 use Rattle.sshkey_entries.specs.OtherKeys.{AreForeignKeyFields, IsFormerName, IsOtherName}
-use Rattle.sshkey_entries.proofs.FieldKeys.{bad_word, other_name}
+use Rattle.sshkey_entries.proofs.KeyFields.{bad_word, other_name}
 use Rattle.sshkey_entries.proofs.OtherKeys.{named_under}
 use Rattle.sshkey_known_hosts.specs.Examples.{Say, host, misnamed_text, webauthn_text, xmss_line, xmss_text}
 use Rattle.sshkey_known_hosts.specs.HostEntries.{marker_of}

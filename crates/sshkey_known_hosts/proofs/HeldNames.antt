@@ -5,8 +5,7 @@ use Rattle.std.proofs.lemmas.Nat.Bits.{bit_at_and, bit_at_or, same_from_bits}
 use Rattle.std.specs.Char.{to_ascii_lowercase}
 use Rattle.std.specs.Int.{bit_at}
 use Rattle.std.specs.List.{Any}
-use Rattle.sshkey_entries.specs.HostNames.{AreForName}
-use Rattle.sshkey_entries.specs.HostVerdicts.{HidesEntry, IsForOthers, Lists, ListsOther}
+use Rattle.sshkey_entries.specs.HostVerdicts.{AreForName, HidesEntry, IsForOthers, Lists, ListsOther}
 use Rattle.sshkey_entries.specs.Items.{patterns}
 use Rattle.sshkey_entries.specs.KnownHosts.{ArePatterns, bar}
 use Rattle.sshkey_entries.specs.Patterns.{Matches, MatchesUnnegated, question_mark, star}

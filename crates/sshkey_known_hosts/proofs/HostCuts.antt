@@ -2,16 +2,14 @@
 use Rattle.std.proofs.Common.{◌≡◌, ◌≢◌, ℕ, List, ◌++◌, slice_index, Option, Result, Ok, Err, IfErr, refl, sym, ap, subst, ◌∙◌}
 use Rattle.sshkey_model.specs.Keys.{Key}
 use Rattle.sshkey_model.specs.Lines.{IsWithout}
-use Rattle.sshkey_entries.specs.Cuts.{CutsField}
+use Rattle.sshkey_entries.specs.Fields.{CutsField, without_blanks, IsField, EndsField, AreKeyFields, AreNoKeyFields}
 use Rattle.sshkey_entries.specs.Entries.{hash_sign, IsNoEntry}
-use Rattle.sshkey_entries.specs.Fields.{without_blanks, IsField, EndsField, AreKeyFields, AreNoKeyFields}
-use Rattle.sshkey_entries.specs.HostNames.{AreFor}
-use Rattle.sshkey_entries.specs.HostVerdicts.{HidesEntry, IsForOthers, Lists, ListsOther}
+use Rattle.sshkey_entries.specs.HostVerdicts.{AreFor, HidesEntry, IsForOthers, Lists, ListsOther}
 use Rattle.sshkey_entries.specs.KnownHosts.{Marker, Hosts, IsHosts}
 use Rattle.sshkey_entries.specs.OpenSshLines.{IsMarkedLine}
 use Rattle.sshkey_entries.specs.OtherKeys.{AreForeignKeyFields}
 use Rattle.sshkey_entries.proofs.Fields.{same_field}
-use Rattle.sshkey_entries.proofs.OneHost.{one_hosts}
+use Rattle.sshkey_entries.proofs.OneEntry.{one_hosts}
 use Rattle.sshkey_entries.proofs.OneOpenSshLine.{one_marked}
 use Rattle.sshkey_known_hosts.specs.HostLines.{HasNamedHosts}
 use Rattle.sshkey_known_hosts.proofs.HostLines.{comment_read, no_marker_read, same_hosts}

@@ -1,5 +1,5 @@
 -- When a line is an entry of known_hosts as OpenSSH reads it.
-use Rattle.std.proofs.Common.{◌≡◌, ◌≢◌, ℕ, List, ◌++◌, slice_index, Option, None, Some, Bool, not, refl, sym, ap, subst, ◌∙◌, arith}
+use Rattle.std.proofs.Common.{◌≡◌, ◌≢◌, ℕ, List, ◌++◌, slice_index, Option, None, Some, Bool, not, refl, sym, ap, subst, ◌∙◌, arith, ◌<◌, ◌≤◌, length, IsTrue, true, false}
 use Rattle.std.proofs.lemmas.Bool.{not-true}
 use Rattle.sshkey_base.specs.Causes.{cause, NoMemory}
 use Rattle.sshkey_base.specs.declared.error.Error.{Error}
@@ -7,17 +7,17 @@ use Rattle.sshkey_base.specs.declared.error.Error.TheVariants.{FormatEncoding}
 use Rattle.sshkey_model.specs.Lines.{IsWithout}
 use Rattle.sshkey_model.proofs.LineTests.{each}
 use Rattle.sshkey_entries.specs.Entries.{hash_sign, IsNoEntry}
-use Rattle.sshkey_entries.specs.Fields.{without_blanks, IsField, EndsField, AreKeyFields, AreNoKeyFields}
+use Rattle.sshkey_entries.specs.Fields.{without_blanks, IsField, EndsField, AreKeyFields, AreNoKeyFields, is_blank, CutsField, HasKeyFault}
 use Rattle.sshkey_entries.specs.KnownHosts.{Marker, CertAuthority, Revoked, marker_text, at_sign, Hosts, IsHosts, KnownHost}
 use Rattle.sshkey_entries.specs.OpenSshLines.{EndsMarker, IsMarkedLine, IsHostLine}
-use Rattle.sshkey_entries.specs.OptionEnds.{is_blank}
 use Rattle.sshkey_entries.proofs.Fields.{same_field}
 use Rattle.sshkey_entries.proofs.OneOpenSshLine.{one_marked}
-use Rattle.sshkey_entries.specs.Cuts.{CutsField}
-use Rattle.sshkey_entries.specs.KeyFields.{HasKeyFault}
 use Rattle.sshkey_known_hosts.specs.HostFaults.{HasNoParts, RefusesHosts}
 use Rattle.sshkey_known_hosts.proofs.Hosts.{have_parts}
-use Rattle.sshkey_known_hosts.specs.OpenSshHosts.{HasHostsField, HasTextFault, HasLineFault, NeedsHostLine}
+use Rattle.sshkey_known_hosts.specs.HostEntries.{HasHostsField, HasTextFault, HasLineFault, NeedsHostLine}
+use Rattle.std.proofs.lemmas.Str.Pattern.{contains_char}
+use Rattle.std.specs.Bool.{MatchBool}
+use Rattle.std.specs.Str.Pattern.{FindsChar}
 
 -- ---- markers
 
@@ -155,3 +155,18 @@ entry_needs line h k = record {
   field = record { marker = h.marker; marked = k.marked; one_word = k.one_word; ends = k.hosts_end };
   some = have_parts k.hosts_part h.hosts k.hosts;
 }
+
+-- Whether a character of ASCII stands in a line.
+
+-- what `contains` says of it
+module _ (c : ℕ) (ascii : c < 128) (line : List ℕ) (found : Bool) (cases : MatchBool found ((i : ℕ) × (j : ℕ) × FindsChar c line (Some (i, j)) × (i ≤ j) × (j ≤ length line)) (FindsChar c line None)) where
+  pub with_it : found ≡ true → IsWithout c line → ⊥
+  with_it e without = let here = (contains_char c line found cases ascii).0 e in without here.0 here.1 here.2
+
+  pub without_it : found ≡ false → IsWithout c line
+  without_it e i l is = cc (sym ((contains_char c line found cases ascii).1 i l is) ∙ e)
+
+-- that it says of none
+pub not_contained : (c : ℕ) → c < 128 → (line : List ℕ) (found : Bool) → MatchBool found ((i : ℕ) × (j : ℕ) × FindsChar c line (Some (i, j)) × (i ≤ j) × (j ≤ length line)) (FindsChar c line None) → (IsTrue (not found) → IsWithout c line) × (IsWithout c line → IsTrue (not found))
+not_contained c ascii line true cases = (λ never. cc never, λ without. absurd (with_it c ascii line true cases refl without))
+not_contained c ascii line false cases = (λ _. without_it c ascii line false cases refl, λ _. refl)

@@ -1,6 +1,6 @@
 -- When a text is that of hosts.
-use Rattle.std.proofs.Common.{◌≡◌, ◌≢◌, ◌⊎◌, ℕ, List, [], ◌∷◌, ◌++◌, length, drop, slice_index, None, Some, Result, Ok, Err, Bor, inl, inr, sym, ap, subst, ◌∙◌, refl, arith}
-use Rattle.std.proofs.lemmas.List.{length-append}
+use Rattle.std.proofs.Common.{◌≡◌, ◌≢◌, ◌⊎◌, ℕ, List, [], ◌∷◌, ◌++◌, length, drop, slice_index, None, Some, Result, Ok, Err, Bor, inl, inr, sym, ap, subst, ◌∙◌, refl, arith, ◌<◌, ◌≤◌, ◌+◌, get_or, ◌↔◌, zero, suc, position, Bool, IsTrue, Option, eqb-true}
+use Rattle.std.proofs.lemmas.List.{length-append, get_or_default, nil_from_length}
 use Rattle.std.proofs.Math.Seq.{get_or-append_seam}
 use Rattle.std.proofs.lemmas.Str.Pattern.{IsSplitOnceResult, split_parts}
 use Rattle.base64.specs.Engines.{standard}
@@ -13,12 +13,25 @@ use Rattle.sshkey_model.specs.Lines.{IsWithout}
 use Rattle.sshkey_model.proofs.Base64Words.{one_blob}
 use Rattle.sshkey_model.proofs.LineCuts.{one_front}
 use Rattle.sshkey_entries.specs.Entries.{IsNoEntry}
-use Rattle.sshkey_entries.specs.KnownHosts.{Hosts, HashedName, Patterns, IsHosts, IsHashedName, hashed_mark, hashed_text, bar}
-use Rattle.sshkey_entries.proofs.OneHost.{bar_not}
+use Rattle.sshkey_entries.specs.KnownHosts.{Hosts, HashedName, Patterns, IsHosts, IsHashedName, hashed_mark, hashed_text, bar, IsMarkedHashed}
+use Rattle.sshkey_entries.proofs.OneEntry.{bar_not}
 use Rattle.sshkey_entries.specs.Answers.{ReadsEntry}
 use Rattle.sshkey_known_hosts.specs.HostEntries.{hosts_of, ReadsHashed}
 use Rattle.sshkey_known_hosts.specs.declared.host_patterns.HostPatterns.{HostPatterns}
 use Rattle.sshkey_known_hosts.specs.HostFaults.{HasNoBar, HasNoBase64, HasNoParts, HasOtherSize, IsNoBase64, RefusesHosts}
+use Rattle.std.proofs.lemmas.Bool.{cases_lt}
+use Rattle.std.specs.List.{Any}
+use Rattle.std.specs.Str.{IsAscii, IsUtf8}
+use Rattle.std.proofs.lemmas.Str.{IsUtf8-append, IsUtf8-from_ascii}
+use Rattle.base64.proofs.EngineFacts.{IsAscii-encode_of}
+use Rattle.std.specs.Prelude.{bytes_eq}
+use Rattle.std.proofs.lemmas.List.Quantifiers.{position-Some}
+use Rattle.std.proofs.lemmas.Slice.Eq.{bytes_eq-Decides}
+use Rattle.sshkey_matching.specs.Patterns.{is_comma}
+use Rattle.sshkey_matching.proofs.PatternLists.{patterns_alone, patterns_at}
+use Rattle.sshkey_entries.specs.HostVerdicts.{AreForName, BeginWithBar}
+use Rattle.sshkey_entries.specs.Items.{patterns}
+use Rattle.sshkey_known_hosts.specs.HostLines.{TellsHosts}
 
 -- ---- a hashed name
 
@@ -121,3 +134,68 @@ refused_parts text FormatEncoding x memory = cc memory
 refused_parts text (Encoding Base64) x memory = cc memory
 refused_parts text (Encoding Length) x memory = cc memory
 refused_parts text e x memory = absurd x
+
+-- Whether one of a list of texts has a property, or all have it, one after the other.
+
+pub none_more : (P : List ℕ → Type 0) (texts : List (List ℕ)) (i : ℕ) (text : List ℕ) → i < length texts → get_or texts i text ≡ text → (P text → ⊥) → ((k : ℕ) (d : List ℕ) → k < i → P (get_or texts k d) → ⊥) → (k : ℕ) (d : List ℕ) → k < i + 1 → P (get_or texts k d) → ⊥
+none_more P texts i text lt is none before k d l = elim (cases_lt k i) [
+  | inl less ↦ before k d less
+  | inr same ↦
+      let e : k ≡ i = omega (arith, l, same) in
+      λ p. none (subst P (get_or_default texts i d text lt ∙ is) (subst (λ (n : ℕ). P (get_or texts n d)) e p))
+]
+
+pub none_of : (P : List ℕ → Type 0) (texts : List (List ℕ)) (i : ℕ) → length texts ≤ i → ((k : ℕ) (d : List ℕ) → k < i → P (get_or texts k d) → ⊥) → Any P texts → ⊥
+none_of P texts i end none some = none some.0 some.1 (omega (arith, some.2, end)) (subst P (sym some.3) some.4)
+
+-- one text more that has it
+pub one_more : (P : List ℕ → Type 0) (texts : List (List ℕ)) (i : ℕ) (text : List ℕ) → i < length texts → get_or texts i text ≡ text → P text → ((k : ℕ) (d : List ℕ) → k < i → P (get_or texts k d)) → (k : ℕ) (d : List ℕ) → k < i + 1 → P (get_or texts k d)
+one_more P texts i text lt is one before k d l = elim (cases_lt k i) [
+  | inl less ↦ before k d less
+  | inr same ↦
+      let e : k ≡ i = omega (arith, l, same) in
+      subst (λ (n : ℕ). P (get_or texts n d)) (sym e) (subst P (sym (get_or_default texts i d text lt ∙ is)) one)
+]
+
+-- Whether a text of hosts is for a name.
+
+module _ (hmac : List ℕ → List ℕ → List ℕ) (name text : List ℕ) where
+  pub tells_none : length text ≡ 0 → TellsHosts hmac name text None
+  tells_none empty = refused_is_none text FormatEncoding (inl (nil_from_length text empty)) (λ e. cc e)
+
+  pub tells_hash : (salt hash : List ℕ) → IsHashedName text salt hash → (b : Bool) → IsTrue b ↔ ((length salt ≡ 20) × (hash ≡ hmac salt name)) → TellsHosts hmac name text (Some b)
+  tells_hash salt hash is b decides = (HashedName salt hash, is, decides)
+
+  pub tells_patterns : (IsMarkedHashed text → ⊥) → 0 < length text → (b : Bool) → IsTrue b ↔ AreForName name (patterns text) → TellsHosts hmac name text (Some b)
+  tells_patterns plain some b decides = (Patterns (patterns text), record { some = some; not_hashed = plain; are = refl }, decides)
+
+-- the same or not, of bytes that are compared
+pub tells_same : (a b : List ℕ) (r : Bool) → r ≡ bytes_eq a b → IsTrue r ↔ (a ≡ b)
+tells_same a b r e = let decides = bytes_eq-Decides a b in rw e decides
+
+-- what is no text is no hash
+pub no_text_hash : (hashed : List ℕ) → (IsUtf8 hashed → ⊥) → IsNoEntry IsHosts (hashed_mark ++ hashed)
+no_text_hash hashed none (Patterns ps) are = are.not_hashed (hashed, refl)
+no_text_hash hashed none (HashedName salt hash) are =
+    let word = λ (b : List ℕ). IsUtf8-from_ascii (encode_of standard b) (IsAscii-encode_of standard b) in
+    none (subst IsUtf8 (sym (ap (drop 3) are.is)) (IsUtf8-append (encode_of standard salt) (bar ∷ encode_of standard hash) (word salt) (IsUtf8-append (bar ∷ []) (encode_of standard hash) (IsUtf8-from_ascii (bar ∷ []) bar_ascii) (word hash))))
+  where
+    bar_ascii : IsAscii (bar ∷ [])
+    bar_ascii zero = omega arith
+    bar_ascii (suc i) = omega arith
+
+-- ---- the first pattern begins as all of them do
+
+begin_at : (list : List ℕ) → 0 < length list → (place : Option ℕ) → place ≡ position is_comma list → BeginWithBar (patterns list) ↔ (slice_index list 0 ≡ bar)
+begin_at list some None at = let is = patterns_alone list at some in (λ b. subst BeginWithBar is b, λ b. subst BeginWithBar (sym is) b)
+begin_at [] some (Some n) at = absurd (omega (arith, some))
+begin_at (c ∷ list) some (Some zero) at =
+    let is = patterns_at (c ∷ list) _ _ zero at refl refl in
+    let comma : c ≡ 0x2c = eqb-true c 0x2c (position-Some is_comma (c ∷ list) zero 0 (sym at)).1 in
+    (λ b. absurd (omega (arith, subst BeginWithBar is b)), λ b. absurd (omega (arith, comma, b)))
+begin_at (c ∷ list) some (Some (suc n)) at =
+    let is = patterns_at (c ∷ list) _ _ (suc n) at refl refl in
+    (λ b. subst BeginWithBar is b, λ b. subst BeginWithBar (sym is) b)
+
+pub begin_alike : (list : List ℕ) → 0 < length list → BeginWithBar (patterns list) ↔ (slice_index list 0 ≡ bar)
+begin_alike list some = begin_at list some (position is_comma list) refl

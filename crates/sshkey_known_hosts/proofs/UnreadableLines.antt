@@ -8,7 +8,7 @@ use Rattle.sshkey_known_hosts.specs.HostEntries.{marker_of}
 use Rattle.sshkey_known_hosts.specs.HostLines.{IsToHost, is_unreadable}
 use Rattle.sshkey_known_hosts.specs.declared.host_line.HostLine.{HostLine}
 use Rattle.sshkey_known_hosts.specs.declared.host_line.HostLine.TheVariants as kind
-use Rattle.sshkey_known_hosts.specs.UnreadableLines.{HidesEntryIn, UnreadableHasLine}
+use Rattle.sshkey_known_hosts.specs.Verdicts.{HidesEntryIn, UnreadableHasLine}
 use Rattle.sshkey_known_hosts.proofs.Verdicts.{either, first, later, only, this}
 
 -- ---- one line

@@ -5,8 +5,7 @@ use Rattle.std.proofs.lemmas.List.{length-append, get_or_append_left, get_or-app
 use Rattle.std.specs.List.{Any}
 use Rattle.sshkey_model.specs.Keys.{Key}
 use Rattle.sshkey_entries.specs.Entries.{IsNoEntry}
-use Rattle.sshkey_entries.specs.HostNames.{AreFor}
-use Rattle.sshkey_entries.specs.HostVerdicts.{Lists, HidesEntry, IsForOthers, IsRevoked, HidesSome, IsListed, IsKnown, IsKnownBy}
+use Rattle.sshkey_entries.specs.HostVerdicts.{AreFor, Lists, HidesEntry, IsForOthers, IsRevoked, HidesSome, IsListed, IsKnown, IsKnownBy}
 use Rattle.sshkey_entries.specs.KnownHosts as known
 use Rattle.sshkey_entries.specs.KnownHosts.{Hosts, KnownHost}
 use Rattle.sshkey_entries.specs.OpenSshLines.{IsHostLine, IsOtherHostLine}

@@ -11,7 +11,7 @@ use Rattle.sshkey_base64.proofs.GoodBytes.{length_word}
 use Rattle.sshkey_model.specs.Parts.{are_bytes}
 use Rattle.sshkey_model.proofs.CombinedReaders.{are_bytes-append, bytes_fit}
 use Rattle.sshkey_known_hosts.specs.HostFaults.{IsNoBase64}
-use Rattle.sshkey_known_hosts.specs.NamedHosts.{ReadsAll, ReadsTwenty}
+use Rattle.sshkey_known_hosts.specs.HostLines.{ReadsAll, ReadsTwenty}
 
 -- These were read, and are the 20 bytes if that many were announced.
 pub record ReadSoFar (s t : Source) (bytes : List ℕ) : Type 0 where

@@ -7,14 +7,14 @@ use Rattle.sshkey_model.specs.KeyExamples.{ed25519_bytes, ed25519_key}
 use Rattle.sshkey_model.specs.Lines.{IsKeyLine, is_word_character, space}
 use Rattle.sshkey_model.specs.Parts.{flat}
 use Rattle.sshkey_model.proofs.LineTests.{each, lacks}
-use Rattle.sshkey_matching.specs.Commas.{patterns}
-use Rattle.sshkey_entries.specs.Fronts.{without_front}
+use Rattle.sshkey_matching.specs.Patterns.{patterns}
+use Rattle.sshkey_entries.specs.Fields.{without_front}
 use Rattle.sshkey_entries.specs.KnownHosts.{IsHosts, IsKnownHost, Patterns, known_text}
 use Rattle.sshkey_entries.specs.OpenSshLines.{IsHostLine}
 use Rattle.sshkey_entries.proofs.Fields.{same_field}
-use Rattle.sshkey_public.specs.OneLine.{IsOneLine, carriage_return, line_feed}
+use Rattle.sshkey_public.specs.WrittenLines.{IsOneLine, carriage_return, line_feed}
 use Rattle.sshkey_known_hosts.specs.Examples.{host, key_text, written}
-use Rattle.sshkey_known_hosts.specs.MadeEntries.{IsReadBack}
+use Rattle.sshkey_known_hosts.specs.HostEntries.{IsReadBack}
 use Rattle.sshkey_known_hosts.proofs.ExampleLemmas.{field, host_is, host_line, own_spelled}
 
 key_alone : IsKeyLine key_text ed25519_key []

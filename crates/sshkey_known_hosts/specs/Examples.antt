@@ -3,8 +3,8 @@
 -- "VERIFYING HOST KEYS"; hostfile.c of OpenSSH). `ssh-keygen -F` and ssh(1) of 9.2 were asked.
 use Rattle.std.specs.Prelude.{◌≡◌, ℕ, List, [], ◌∷◌, ◌++◌, Option, None, Some, true, false, codes, replicate}
 use Rattle.std.specs.List.{All}
-use Rattle.sshkey_entries.specs.HostNames.{known_name}
-use Rattle.sshkey_entries.specs.KeyFields.{IsKept}
+use Rattle.sshkey_entries.specs.HostVerdicts.{known_name}
+use Rattle.sshkey_entries.specs.Fields.{IsKept}
 use Rattle.sshkey_entries.specs.KnownHosts.{CertAuthority, KnownHost, Marker, after_marker}
 use Rattle.sshkey_entries.specs.KnownHosts as known
 use Rattle.sshkey_model.specs.CertificateExamples.{authority}
@@ -13,12 +13,9 @@ use Rattle.sshkey_model.specs.Lines.{space}
 use Rattle.sshkey_known_hosts.specs.Hmac.{hmac_sha1}
 use Rattle.sshkey_public.specs.PublicKeys.{comment_of, public_of}
 use Rattle.sshkey_public.specs.declared.public_key.PublicKey.{PublicKey}
-use Rattle.sshkey_known_hosts.specs.HostEntries.{marker_front, marker_of}
-use Rattle.sshkey_known_hosts.specs.HostLines.{IsToHost, is_unreadable}
-use Rattle.sshkey_known_hosts.specs.MadeEntries.{IsReadBack}
-use Rattle.sshkey_known_hosts.specs.NamedHosts.{TellsHosts}
-use Rattle.sshkey_known_hosts.specs.UnreadableLines.{HidesEntryIn, IsNumberOfFirst}
-use Rattle.sshkey_known_hosts.specs.Verdicts.{AreInOrder, IsAuthorityLine, IsVerdict, in_front, is_authority_of, marked_verdict_of, max_severity_of}
+use Rattle.sshkey_known_hosts.specs.HostEntries.{marker_front, marker_of, IsReadBack}
+use Rattle.sshkey_known_hosts.specs.HostLines.{IsToHost, is_unreadable, TellsHosts}
+use Rattle.sshkey_known_hosts.specs.Verdicts.{HidesEntryIn, IsNumberOfFirst, AreInOrder, IsAuthorityLine, IsVerdict, in_front, is_authority_of, marked_verdict_of, max_severity_of}
 use Rattle.sshkey_known_hosts.specs.declared.host_line.HostLine.TheVariants as is
 use Rattle.sshkey_known_hosts.specs.declared.marker.Marker.TheVariants as marker
 use Rattle.sshkey_known_hosts.specs.declared.verdict.Verdict.{Verdict}

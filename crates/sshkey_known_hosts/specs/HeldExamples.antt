@@ -4,8 +4,7 @@ use Rattle.std.specs.Prelude.{◌≡◌, ◌+◌, ℕ, [], ◌∷◌, None, code
 use Rattle.sshkey_known_hosts.specs.Examples.{broken_line, by_line, host, line, revoking}
 use Rattle.sshkey_known_hosts.specs.HeldNames.{IsAmong, MayBeFor, SayNothing, TellsNames, fnv_step, name_hash}
 use Rattle.sshkey_known_hosts.specs.Hmac.{hmac_sha1}
-use Rattle.sshkey_known_hosts.specs.LinePlaces.{ArePlacesOf, total_length}
-use Rattle.sshkey_known_hosts.specs.SameLines.{SaySame}
+use Rattle.sshkey_known_hosts.specs.HeldLines.{ArePlacesOf, total_length, SaySame}
 use Rattle.sshkey_known_hosts.specs.declared.places.LinePlace.{LinePlace}
 
 -- of no bytes, of `a`, and of `foobar` in whichever letters

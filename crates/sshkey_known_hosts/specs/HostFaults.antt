@@ -7,7 +7,7 @@ use Rattle.sshkey_base.specs.declared.error.Error.{Error}
 use Rattle.sshkey_base.specs.declared.error.Error.TheVariants.{Encoding, FormatEncoding, Memory}
 use Rattle.sshkey_model.specs.Keys.{key_format, SpellsKey}
 use Rattle.sshkey_model.specs.Lines.{space, key_name, IsWithout}
-use Rattle.sshkey_public.specs.LineFaults.{HasFaultOfLine}
+use Rattle.sshkey_public.specs.Lines.{HasFaultOfLine}
 use Rattle.sshkey_entries.specs.Entries.{IsNoEntry}
 use Rattle.sshkey_entries.specs.KnownHosts.{Hosts, Marker, IsHosts, IsMarked, bar, hashed_mark, hashed_text}
 

@@ -1,16 +1,10 @@
 pub mod HostEntries
 pub mod HostFaults
-pub mod OpenSshHosts
-pub mod NamedHosts
-pub mod Verdicts
 pub mod HostLines
-pub mod MadeEntries
+pub mod Verdicts
 pub mod Hmac
 pub mod HmacExamples
-pub mod UnreadableLines
 pub mod HeldNames
 pub mod HeldLines
-pub mod LinePlaces
-pub mod SameLines
 pub mod Examples
 pub mod HeldExamples

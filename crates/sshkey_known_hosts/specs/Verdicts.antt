@@ -1,9 +1,9 @@
 -- What a verdict on a host's key means, and which keys are those of its authorities.
-use Rattle.std.specs.Prelude.{◌≡◌, ◌↔◌, ℕ, List, [], ◌∷◌, ◌++◌, Option, Some, None, Bool, true, false}
+use Rattle.std.specs.Prelude.{◌≡◌, ◌↔◌, ℕ, List, [], ◌∷◌, ◌++◌, Option, Some, None, Bool, true, false, ◌+◌, length, IsSome}
 use Rattle.std.specs.List.{Any}
 use Rattle.sshkey_model.specs.Keys.{Key}
-use Rattle.sshkey_entries.specs.HostVerdicts.{IsRevoked, HidesSome, IsListed, IsKnown, IsAuthority, Lists}
-use Rattle.sshkey_entries.specs.KeyFields.{IsKept}
+use Rattle.sshkey_entries.specs.HostVerdicts.{IsRevoked, HidesSome, IsListed, IsKnown, IsAuthority, Lists, HidesEntry}
+use Rattle.sshkey_entries.specs.Fields.{IsKept, filled_lines, is_filled, without_blanks}
 use Rattle.sshkey_entries.specs.KnownHosts.{CertAuthority}
 use Rattle.sshkey_public.specs.PublicKeys.{comment_of, public_of}
 use Rattle.sshkey_public.specs.declared.public_key.PublicKey.{PublicKey}
@@ -11,6 +11,7 @@ use Rattle.sshkey_known_hosts.specs.declared.marker.Marker.{Marker}
 use Rattle.sshkey_known_hosts.specs.declared.marker.Marker.TheVariants as marker
 use Rattle.sshkey_known_hosts.specs.declared.verdict.Verdict.{Verdict}
 use Rattle.sshkey_known_hosts.specs.declared.verdict.Verdict.TheVariants.{Revoked, Unreadable, Trusted, Changed, Unknown}
+use Rattle.std.specs.Str.Lines.{lines}
 
 -- The first of these that holds: a line revokes the key; one may be hidden; one has the key; one
 -- has another; none has any.
@@ -75,3 +76,18 @@ in_front (Some k) keys = k ∷ keys
 abbrev pub AreInOrder : (List ℕ → List ℕ → List ℕ) → List ℕ → List (List ℕ) → List PublicKey → Type 0
 AreInOrder hmac name [] keys = keys ≡ []
 AreInOrder hmac name (line ∷ lines) keys = (found : Option PublicKey) × (rest : List PublicKey) × IsAuthorityLine hmac name line found × AreInOrder hmac name lines rest × (keys ≡ in_front found rest)
+
+-- Which line of a text of known_hosts cannot be read.
+
+-- The line is neither empty nor a comment, and no entry, and may have been one for the name.
+abbrev pub HidesEntryIn : (List ℕ → List ℕ → List ℕ) → List ℕ → List ℕ → Type 0
+HidesEntryIn hmac name line = (is_filled (without_blanks line) ≡ true) × HidesEntry hmac name (without_blanks line)
+
+-- the number, from 1, of the first of the lines of which that holds; or it holds of none
+abbrev pub IsNumberOfFirst : (List ℕ → Type 0) → List (List ℕ) → Option ℕ → Type 0
+IsNumberOfFirst P all None = ¬ Any P all
+IsNumberOfFirst P all (Some n) = (before : List (List ℕ)) × (line : List ℕ) × (after : List (List ℕ)) × (all ≡ before ++ (line ∷ after)) × ¬ Any P before × P line × (n ≡ length before + 1)
+
+-- Where a text makes a verdict `Unreadable`, one of its lines has a number.
+abbrev pub UnreadableHasLine : Type 0
+UnreadableHasLine = (hmac : List ℕ → List ℕ → List ℕ) (name : List ℕ) (key : Key) (text : List ℕ) (n : Option ℕ) → IsVerdict hmac name key (filled_lines text) Unreadable → IsNumberOfFirst (HidesEntryIn hmac name) (lines text) n → IsSome n

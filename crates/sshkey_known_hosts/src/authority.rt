@@ -3,8 +3,7 @@
 ghost use Rattle.std.specs.Prelude.{◌≡◌, ◌<◌, IfOk, IfErr, length};
 ghost use Rattle.sshkey_base.specs.declared.error.Error.TheVariants as wide;
 ghost use Rattle.sshkey_entries.specs.Fields.{filled_lines};
-ghost use Rattle.sshkey_entries.specs.HostNames.{known_name};
-ghost use Rattle.sshkey_entries.specs.HostVerdicts.{IsForOthers};
+ghost use Rattle.sshkey_entries.specs.HostVerdicts.{known_name, IsForOthers};
 ghost use Rattle.sshkey_known_hosts.specs.Verdicts.{AreAuthorities, AreInOrder, IsAuthorityLine, is_authority_of};
 
 use crate::host_hasher::HostHasher;

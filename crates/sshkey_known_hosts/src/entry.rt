@@ -3,12 +3,11 @@
 ghost use Rattle.std.specs.Prelude.{◌≡◌, ◌↔◌, IsTrue, IfErr, IfOk, string_bytes};
 ghost use Rattle.sshkey_base.specs.declared.error.Error.TheVariants as wide;
 ghost use Rattle.sshkey_entries.specs.KnownHosts.{KnownHost, IsKnownHost, known_text};
-ghost use Rattle.sshkey_entries.specs.Answers.{AsksEntry, ReadsEntry, RefusesFor};
+ghost use Rattle.sshkey_entries.specs.Answers.{AsksEntry, ReadsEntry, RefusesFor, MakesEntry};
 ghost use Rattle.sshkey_known_hosts.specs.HostEntries.{key_in, hosts_in, known_host_of, marker_front, marker_in, SplitsMarker};
 ghost use Rattle.sshkey_known_hosts.specs.HostFaults.{HasFault, NeedsLine};
-ghost use Rattle.sshkey_entries.specs.MadeTexts.{MakesEntry};
 ghost use Rattle.sshkey_keys.specs.Keys.{stored_algorithm};
-ghost use Rattle.sshkey_public.specs.OneLine.{IsOneLine};
+ghost use Rattle.sshkey_public.specs.WrittenLines.{IsOneLine};
 ghost use Rattle.sshkey_public.specs.PublicKeys.{data_of};
 
 use crate::host_patterns::HostPatterns;

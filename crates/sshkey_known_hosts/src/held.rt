@@ -3,13 +3,12 @@
 ghost use Rattle.std.specs.Prelude.{◌≡◌, ◌<◌, ℕ, List, IsTrue, IfOk, IfErr, length};
 ghost use Rattle.sshkey_base.specs.declared.error.Error.TheVariants as wide;
 ghost use Rattle.sshkey_entries.specs.Fields.{filled_lines};
-ghost use Rattle.sshkey_entries.specs.HostNames.{AreForName, known_name, standard_port};
+ghost use Rattle.sshkey_entries.specs.HostVerdicts.{AreForName, known_name, standard_port};
 ghost use Rattle.sshkey_entries.specs.Items.{patterns};
 ghost use Rattle.sshkey_entries.specs.Patterns.{question_mark, star};
 ghost use Rattle.sshkey_model.specs.Lines.{IsWithout};
-ghost use Rattle.sshkey_known_hosts.specs.HeldLines.{held_lines, lines_of};
+ghost use Rattle.sshkey_known_hosts.specs.HeldLines.{held_lines, lines_of, SaySame};
 ghost use Rattle.sshkey_known_hosts.specs.HeldNames.{IsAmong, MayBeFor, name_hash};
-ghost use Rattle.sshkey_known_hosts.specs.SameLines.{SaySame};
 
 use crate::held_line::HeldLine;
 use crate::host_name::known_name;

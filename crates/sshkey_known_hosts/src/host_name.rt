@@ -4,7 +4,7 @@ ghost use Rattle.std.specs.Prelude.{◌≡◌, ◌↔◌, IsTrue, IfOk, IfErr, s
 ghost use Rattle.std.specs.Char.{to_ascii_lowercase};
 ghost use Rattle.std.specs.List.{All, Any};
 ghost use Rattle.sshkey_base.specs.declared.error.Error.TheVariants as wide;
-ghost use Rattle.sshkey_entries.specs.HostNames.{AreForName, BeginWithBar, known_name};
+ghost use Rattle.sshkey_entries.specs.HostVerdicts.{AreForName, BeginWithBar, known_name};
 ghost use Rattle.sshkey_entries.specs.Patterns.{IsShortPattern, MatchesUnnegated, MatchesNegated};
 
 use sshkey_base::{Result, Text};

@@ -3,10 +3,10 @@
 ghost use Rattle.std.specs.Prelude.{◌≡◌, ◌++◌, ◌↔◌, IsTrue, IfOk, IfErr, OnOk, string_bytes};
 ghost use Rattle.std.specs.List.{All, join_with_byte};
 ghost use Rattle.sshkey_base.specs.declared.error.Error.TheVariants as wide;
-ghost use Rattle.sshkey_entries.specs.HostNames.{AreFor, known_name};
+ghost use Rattle.sshkey_entries.specs.HostVerdicts.{AreFor, known_name};
 ghost use Rattle.sshkey_entries.specs.KnownHosts.{IsHosts, comma, hosts_text};
 ghost use Rattle.sshkey_entries.specs.Answers.{ReadsEntry};
-ghost use Rattle.sshkey_public.specs.OneLine.{IsOneLine};
+ghost use Rattle.sshkey_public.specs.WrittenLines.{IsOneLine};
 ghost use Rattle.sshkey_known_hosts.specs.HostEntries.{hosts_of, ReadsHashed, ReadsPatterns, ReadsBase64};
 ghost use Rattle.sshkey_known_hosts.specs.HostFaults.{RefusesHosts};
 

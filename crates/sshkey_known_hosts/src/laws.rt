@@ -2,8 +2,7 @@
 
 ghost use Rattle.sshkey_base.specs.Comparisons.{EqualMeanSame, IsEqualityAmong, IsEqualityOf};
 ghost use Rattle.sshkey_known_hosts.specs.HostEntries.{IsOfKey, hosts_of, known_host_of, marker_of};
-ghost use Rattle.sshkey_known_hosts.specs.UnreadableLines.{UnreadableHasLine};
-ghost use Rattle.sshkey_known_hosts.specs.Verdicts.{OneVerdict};
+ghost use Rattle.sshkey_known_hosts.specs.Verdicts.{UnreadableHasLine, OneVerdict};
 
 use crate::entry::Entry;
 use crate::host_patterns::HostPatterns;

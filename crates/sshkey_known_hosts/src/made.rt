@@ -4,8 +4,7 @@ ghost use Rattle.std.specs.Prelude.{◌≡◌, ◌↔◌, IsTrue, IfErr, IfOk};
 ghost use Rattle.sshkey_base.specs.declared.error.Error.TheVariants as wide;
 ghost use Rattle.sshkey_entries.specs.KnownHosts.{IsKnownHost};
 ghost use Rattle.sshkey_entries.specs.OpenSshLines.{IsHostLine};
-ghost use Rattle.sshkey_known_hosts.specs.HostEntries.{IsOfKey, known_host_of, hosts_in, key_in, marker_in};
-ghost use Rattle.sshkey_known_hosts.specs.MadeEntries.{IsReadBack, RefusesMade, known_host_from};
+ghost use Rattle.sshkey_known_hosts.specs.HostEntries.{IsOfKey, known_host_of, hosts_in, key_in, marker_in, IsReadBack, RefusesMade, known_host_from};
 
 use crate::entry::Entry;
 use crate::host_patterns::HostPatterns;

@@ -5,8 +5,7 @@ ghost use Rattle.sshkey_entries.specs.Entries.{hash_sign};
 ghost use Rattle.sshkey_entries.specs.KnownHosts.{at_sign, marker_text};
 ghost use Rattle.sshkey_entries.specs.OpenSshLines.{EndsMarker};
 ghost use Rattle.sshkey_model.specs.Lines.{IsWithout, space};
-ghost use Rattle.sshkey_known_hosts.specs.HostEntries.{ReadsMarker, marker_of};
-ghost use Rattle.sshkey_known_hosts.specs.OpenSshHosts.{SplitsMarkerField};
+ghost use Rattle.sshkey_known_hosts.specs.HostEntries.{ReadsMarker, marker_of, SplitsMarkerField};
 
 use crate::marker::Marker;
 use memchr::memchr;

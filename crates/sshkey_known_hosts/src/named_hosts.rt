@@ -3,10 +3,10 @@
 ghost use Rattle.std.specs.Prelude.{◌≡◌, ◌++◌, ◌<◌, ◌≤◌, ◌↔◌, IsTrue, length, slice_index};
 ghost use Rattle.base64.specs.Decode.{decoded_estimate};
 ghost use Rattle.sshkey_base64.specs.Words64.{DecodesSome};
-ghost use Rattle.sshkey_entries.specs.HostNames.{AreForName};
+ghost use Rattle.sshkey_entries.specs.HostVerdicts.{AreForName};
 ghost use Rattle.sshkey_entries.specs.Items.{patterns};
 ghost use Rattle.sshkey_entries.specs.KnownHosts.{bar, hashed_mark};
-ghost use Rattle.sshkey_known_hosts.specs.NamedHosts.{ReadsAll, ReadsTwenty, TellsHosts};
+ghost use Rattle.sshkey_known_hosts.specs.HostLines.{ReadsAll, ReadsTwenty, TellsHosts};
 
 use crate::host_hasher::HostHasher;
 use base64::engine::general_purpose::STANDARD;
@@ -103,7 +103,7 @@ pub(crate) fn begins_with_bar(text: &[u8]) -> bool
 }
 
 /// Whether the patterns are for the name.
-#[tactic(auto, using(crate::proofs::NamedHosts::begin_alike))]
+#[tactic(auto, using(crate::proofs::Hosts::begin_alike))]
 fn are_patterns_for(text: &[u8], name: &str) -> bool
     requires { 0 < length text.now }
     ensures { IsTrue result ↔ AreForName name.now (patterns text.now) }

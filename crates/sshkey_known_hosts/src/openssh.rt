@@ -9,8 +9,7 @@ ghost use Rattle.sshkey_entries.specs.KnownHosts.{at_sign};
 ghost use Rattle.sshkey_entries.specs.OpenSshLines.{EndsMarker, IsHostLine};
 ghost use Rattle.sshkey_entries.specs.Answers.{ReadsEntry, RefusesFor, YieldsAnswers};
 ghost use Rattle.sshkey_model.specs.Lines.{IsWithout, space};
-ghost use Rattle.sshkey_known_hosts.specs.HostEntries.{known_host_of, marker_of};
-ghost use Rattle.sshkey_known_hosts.specs.OpenSshHosts.{AnswersHostLine, HasLineFault, NeedsHostLine, SplitsMarkerField};
+ghost use Rattle.sshkey_known_hosts.specs.HostEntries.{known_host_of, marker_of, AnswersHostLine, HasLineFault, NeedsHostLine, SplitsMarkerField};
 
 use crate::entry::Entry;
 use crate::host_patterns::HostPatterns;

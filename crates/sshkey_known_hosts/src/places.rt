@@ -4,11 +4,9 @@ ghost use Rattle.std.specs.Prelude.{◌≡◌, ◌≤◌, ◌<◌, ◌↔◌, �
 ghost use Rattle.std.specs.Str.Lines.{lines};
 ghost use Rattle.sshkey_base.specs.declared.error.Error.TheVariants as wide;
 ghost use Rattle.sshkey_entries.specs.Fields.{filled_lines};
-ghost use Rattle.sshkey_entries.specs.HostNames.{known_name, standard_port};
-ghost use Rattle.sshkey_known_hosts.specs.HeldLines.{lines_of};
+ghost use Rattle.sshkey_entries.specs.HostVerdicts.{known_name, standard_port};
+ghost use Rattle.sshkey_known_hosts.specs.HeldLines.{lines_of, ArePlacesOf, total_length, SaySame};
 ghost use Rattle.sshkey_known_hosts.specs.HeldNames.{TellsNames};
-ghost use Rattle.sshkey_known_hosts.specs.LinePlaces.{ArePlacesOf, total_length};
-ghost use Rattle.sshkey_known_hosts.specs.SameLines.{SaySame};
 
 use crate::held::{STANDARD_PORT, name_hash, names_of_line};
 use crate::held_line::is_among;

@@ -4,8 +4,8 @@ ghost use Rattle.std.specs.Prelude.{◌≡◌, ◌<◌, ◌↔◌, IfErr, IfOk, 
 ghost use Rattle.std.specs.Str.Lines.{lines};
 ghost use Rattle.sshkey_base.specs.declared.error.Error.TheVariants as wide;
 ghost use Rattle.sshkey_entries.specs.Fields.{filled_lines};
-ghost use Rattle.sshkey_entries.specs.HostNames.{known_name};
-ghost use Rattle.sshkey_known_hosts.specs.UnreadableLines.{HidesEntryIn, IsNumberOfFirst};
+ghost use Rattle.sshkey_entries.specs.HostVerdicts.{known_name};
+ghost use Rattle.sshkey_known_hosts.specs.Verdicts.{HidesEntryIn, IsNumberOfFirst};
 
 use crate::host_hasher::HostHasher;
 use crate::host_line::read_host_line;

@@ -30,14 +30,11 @@ use Rattle.sshkey_terms.specs.Slices.{is_taken}
 use Rattle.sshkey_terms.proofs.Lawful.{called_ends, tested_lawful}
 use Rattle.sshkey_model.specs.Terms.{◌then◌, boxed, literal_format, tested}
 use Rattle.sshkey_model.specs.ToEnd.{values_to_end}
-use Rattle.sshkey_krl.specs.Krls.{SpellsKrl, header_format, krl_format, krl_in, magic, version_from}
-use Rattle.sshkey_krl.specs.Owned.{Adds}
+use Rattle.sshkey_krl.specs.Krls.{SpellsKrl, header_format, krl_format, krl_in, magic, version_from, authority_from, body, is_read_signer, kind_from, section_format}
+use Rattle.sshkey_krl.specs.Writing.{Adds, Appends, IsWellFormedAuthority, RefusesToWrite, authority_string, certificates_section, framed, has_zero, header, is_read_authority, key_id_part, key_section, range_part, serials_part, sha1_section, sha256_section}
 use Rattle.sshkey_krl.specs.Parts as parts
 use Rattle.sshkey_krl.specs.Parts.{key_id_format, numbered, part_format, serial_format, text_from}
-use Rattle.sshkey_krl.specs.Revocation.{Authority, Certificates, Everybody, KeyIds, Keys, Krl, Numbers, Part, Section, Sha1s, Sha256s, Signer, begun, with_section, without_zero}
-use Rattle.sshkey_krl.specs.Sections.{authority_from, body, is_read_signer, kind_from, section_format}
-use Rattle.sshkey_krl.specs.Serials.{Listed, Range, range_from}
-use Rattle.sshkey_krl.specs.Written.{Appends, IsWellFormedAuthority, RefusesToWrite, authority_string, certificates_section, framed, has_zero, header, is_read_authority, key_id_part, key_section, range_part, serials_part, sha1_section, sha256_section}
+use Rattle.sshkey_krl.specs.Revocation.{Authority, Certificates, Everybody, KeyIds, Keys, Krl, Numbers, Part, Section, Sha1s, Sha256s, Signer, begun, with_section, without_zero, Listed, Range, range_from}
 use Rattle.sshkey_krl.specs.declared.part.PartKind.TheVariants as kinds
 use Rattle.sshkey_krl.specs.declared.section.SectionKind.TheVariants as sections
 use Rattle.sshkey_krl.proofs.Krls.{spelled}

@@ -1,5 +1,7 @@
--- What a list says, and what it revokes.
-use Rattle.std.proofs.Common.{◌≡◌, ℕ, Bool, true, false, ◌||◌, List, [], ◌∷◌, append-nil, Result, Ok, Err, refl, sym, ap, subst, ◌∙◌}
+-- What was read whole left nothing.
+use Rattle.std.proofs.Common.{◌≡◌, ℕ, List, [], ◌∷◌, Ok, ap, ◌∙◌, Bool, true, false, ◌||◌, append-nil, Result, Err, refl, sym, subst}
+use Rattle.sshkey_model.proofs.CombinedReaders.{bind_ok, ok_is}
+use Rattle.sshkey_model.specs.Reading.{Front, end_of, whole, Fault, ◌>>=◌, checked_at, checked_whole, list_whole, after_at}
 use Rattle.std.specs.Prelude.{bytes_eq}
 use Rattle.std.specs.List.{list_any}
 use Rattle.sha1.specs.Sha1.{sha1}
@@ -7,17 +9,23 @@ use Rattle.sha2.specs.Sha256.{sha256}
 use Rattle.sshkey_base.specs.Answers.{AnswersAlways, Judges}
 use Rattle.sshkey_base.specs.Causes.{Cause}
 use Rattle.sshkey_base.specs.Reading.{NoSpelling, Refuses}
-use Rattle.sshkey_krl.proofs.Wholes.{whole_is}
-use Rattle.sshkey_model.specs.Reading.{Fault, ◌>>=◌, Front, checked_at, checked_whole, end_of, list_whole, whole, after_at}
 use Rattle.sshkey_terms.proofs.SliceFronts.{taken_value}
 use Rattle.sshkey_terms.specs.Slices.{found_or, is_taken}
 use Rattle.sshkey_model.specs.ToEnd.{each_at}
 use Rattle.sshkey_krl.specs.Query.{Query, certificate_query, key_query, says}
-use Rattle.sshkey_krl.specs.Krls.{SpellsKrl, header_format, krl_format, krl_in, krl_of, no_krl}
+use Rattle.sshkey_krl.specs.Krls.{SpellsKrl, header_format, krl_format, krl_in, krl_of, no_krl, section_format}
 use Rattle.sshkey_krl.specs.Revocation.{CertificateIdentity, Certificates, Keys, Krl, Section, Sha1s, Sha256s, certificate_identity, has_key, lists, revokes, revokes_key}
-use Rattle.sshkey_krl.specs.Sections.{section_format}
 use Rattle.sshkey_krl.proofs.Asking.{asked}
 use Rattle.sshkey_krl.proofs.Lawful.{krl_lawful}
+
+nothing : {Y : Type 0} (x : Y) (rest : List ℕ) (y : Y) → end_of x rest ≡ Ok y → ◌≡◌ {A = Y × List ℕ} (x, rest) (y, [])
+nothing {Y} x [] y e = ap (λ (z : Y). (z, [])) (ok_is x y e)
+nothing x (c ∷ rest) y e = absurd cc
+
+pub whole_is : {Y : Type 0} (read : Front Y) (b : List ℕ) (y : Y) → whole read b ≡ Ok y → read b ≡ Ok (y, [])
+whole_is {Y} read b y e = let x = bind_ok (read b) (λ z. end_of z.0 z.1) y e in x.1 ∙ ap (λ (z : Y × List ℕ). Ok z) (nothing x.0.0 x.0.1 y x.2)
+
+-- What a list says, and what it revokes.
 
 -- ---- the header, and the sections
 

@@ -11,12 +11,11 @@ use Rattle.sshkey_model.specs.Reading.{Fault}
 use Rattle.sshkey_terms.proofs.Lawful.{boxed_lawful, called_lawful, literal_lawful, tested_lawful, then_lawful, values_to_end_lawful}
 use Rattle.sshkey_model.specs.Terms.{◌then◌, literal_format, tested}
 use Rattle.sshkey_model.specs.ToEnd.{HasBytes}
-use Rattle.sshkey_krl.specs.Krls.{header_format, krl_format, krl_of, magic, version_from}
+use Rattle.sshkey_krl.specs.Krls.{header_format, krl_format, krl_of, magic, version_from, authority_from, section_format}
 use Rattle.sshkey_krl.specs.Parts as parts
 use Rattle.sshkey_krl.specs.Parts.{key_id_format, numbered, part_format, serial_format, text_from}
-use Rattle.sshkey_krl.specs.Sections as sections
-use Rattle.sshkey_krl.specs.Sections.{authority_from, section_format}
-use Rattle.sshkey_krl.specs.Serials.{serial_from}
+use Rattle.sshkey_krl.specs.Krls as sections
+use Rattle.sshkey_krl.specs.Revocation.{serial_from}
 use Rattle.sshkey_krl.specs.declared.part.PartKind.{PartKind}
 use Rattle.sshkey_krl.specs.declared.part.PartKind.TheVariants as part_kinds
 use Rattle.sshkey_krl.specs.declared.section.SectionKind.{SectionKind}

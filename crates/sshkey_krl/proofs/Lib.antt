@@ -4,9 +4,8 @@ pub mod Asking
 pub mod Numbering
 pub mod Parts
 pub mod Zeros
-pub mod Wholes
+pub mod Krls
 pub mod Authorities
 pub mod Sections
-pub mod Krls
 pub mod Writing
 pub mod Grown

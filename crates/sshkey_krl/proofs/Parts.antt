@@ -8,8 +8,7 @@ use Rattle.sshkey_model.specs.Reading.{Fault, ◌>>=◌, checked_whole, end_of, 
 use denote.Ref.{Bor}
 use Rattle.sshkey_krl.specs.Query.{Query, key_id_says, part_says}
 use Rattle.sshkey_krl.specs.Parts.{body, key_id_format}
-use Rattle.sshkey_krl.specs.Revocation.{Numbers, Part}
-use Rattle.sshkey_krl.specs.Serials.{Serials, bitmap_from, range_from}
+use Rattle.sshkey_krl.specs.Revocation.{Numbers, Part, Serials, bitmap_from, range_from}
 use Rattle.sshkey_krl.specs.declared.part.PartKind.TheVariants as kinds
 use Rattle.sshkey_krl.proofs.Asking.{asked}
 

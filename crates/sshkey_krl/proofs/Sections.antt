@@ -11,13 +11,13 @@ use Rattle.sshkey_model.specs.Parts.{flat}
 use Rattle.sshkey_model.specs.Reading.{Fault, FormatEncoding, ◌>>=◌, checked_whole, list_whole, string_at, whole, after_at}
 use denote.Ref.{Bor}
 use Rattle.sshkey_keys.proofs.KeyReaders.{key_grammar}
-use Rattle.sshkey_keys_ref.specs.KeyDataRef.{key_bytes}
+use Rattle.sshkey_keys_ref.specs.Keys.{key_bytes}
 use Rattle.sshkey_keys_ref.specs.declared.key_data_ref.KeyDataRef.{KeyDataRef}
 use Rattle.sshkey_terms.specs.Slices.{Keeps}
 use Rattle.sshkey_krl.specs.Query.{Query, authority_says, key_says, part_says, says, sha1_says, sha256_says, signer_says}
 use Rattle.sshkey_krl.specs.Parts.{part_format}
 use Rattle.sshkey_krl.specs.Revocation.{Authority, Everybody, Part, Section, Signer}
-use Rattle.sshkey_krl.specs.Sections.{authority_from, body, is_read_signer}
+use Rattle.sshkey_krl.specs.Krls.{authority_from, body, is_read_signer}
 use Rattle.sshkey_krl.specs.declared.section.SectionKind.TheVariants as kinds
 use Rattle.sshkey_krl.proofs.Asking.{asked}
 

@@ -8,7 +8,7 @@ use Rattle.sshkey_base.specs.declared.encoding.Error.TheVariants.{Length}
 use Rattle.sshkey_model.proofs.CombinedReaders.{fits_both}
 use Rattle.sshkey_model.specs.Parts.{BoxesFit, Parts, ◌&◌, bytes, each, flat, number}
 use Rattle.sshkey_model.specs.Texts.{string}
-use Rattle.sshkey_krl.specs.Written.{header}
+use Rattle.sshkey_krl.specs.Writing.{header}
 
 pub step : (fault : Error → Type 0) (p q : Parts) (s t u : Sink) (r : Result (Unit {0}) Error) → Written p s t → Encodes fault q t r u → Encodes fault (p & q) s r u
 step fault p q s t u (Ok x) w h = (fits_both p q w.0 h.0, h.1 ∙ ap (after q) w.1 ∙ sym (after_both p q s))

@@ -1,7 +1,7 @@
 -- The bytes after leading zeros, one zero after the other.
 use Rattle.std.proofs.Common.{◌≡◌, ℕ, zero, suc, List, [], ◌∷◌, length, refl, sym, subst, ◌∙◌}
 use Rattle.std.proofs.lemmas.List.{nil_from_length}
-use Rattle.sshkey_krl.specs.Serials.{significant}
+use Rattle.sshkey_krl.specs.Revocation.{significant}
 
 pub zero_first : (bytes rest after : List ℕ) (c : ℕ) → rest ≡ c ∷ after → c ≡ 0 → significant rest ≡ significant bytes → significant after ≡ significant bytes
 unfolding significant

@@ -4,14 +4,12 @@ use Rattle.sshkey_model.specs.HexText.{hex}
 use Rattle.sshkey_model.specs.Keys.{Key, Ecdsa, Ed25519, Rsa}
 use Rattle.sshkey_model.specs.Names.{Nistp256}
 use Rattle.sshkey_model.specs.Reading.{FormatEncoding, TrailingData, Version, whole}
-use Rattle.sshkey_krl.specs.Krls.{krl_format, version_from}
+use Rattle.sshkey_krl.specs.Krls.{krl_format, version_from, authority_from, is_read_signer}
 use Rattle.sshkey_krl.specs.Parts as parts
 use Rattle.sshkey_krl.specs.Parts.{text_from}
-use Rattle.sshkey_krl.specs.Revocation.{Certificates, Everybody, KeyIds, Keys, Krl, Numbers, Section, Sha1s, Sha256s, Signer, certificate_identity, has_certificate, has_key, revokes, revokes_key, without_zero}
+use Rattle.sshkey_krl.specs.Revocation.{Certificates, Everybody, KeyIds, Keys, Krl, Numbers, Section, Sha1s, Sha256s, Signer, certificate_identity, has_certificate, has_key, revokes, revokes_key, without_zero, Bitmap, Listed, Range, fits, has_serial, is_bitmap, range_from, serial_from}
 use Rattle.sshkey_krl.specs.Revocations.{only_if_read, unless_read}
-use Rattle.sshkey_krl.specs.Sections as sections
-use Rattle.sshkey_krl.specs.Sections.{authority_from, is_read_signer}
-use Rattle.sshkey_krl.specs.Serials.{Bitmap, Listed, Range, fits, has_serial, is_bitmap, range_from, serial_from}
+use Rattle.sshkey_krl.specs.Krls as sections
 use Rattle.sshkey_krl.specs.declared.part.PartKind.TheVariants as part
 use Rattle.sshkey_krl.specs.declared.section.SectionKind.TheVariants as section
 

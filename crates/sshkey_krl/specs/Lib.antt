@@ -1,13 +1,9 @@
-pub mod Serials
 pub mod Revocation
 pub mod Parts
-pub mod Renamed
-pub mod Sections
+pub mod Writing
 pub mod Krls
 pub mod Query
 pub mod KrlRef
-pub mod Written
-pub mod Owned
 pub mod Revocations
 pub mod KrlExamples
 pub mod WrittenExamples

@@ -6,8 +6,7 @@ use Rattle.sshkey_model.specs.Leaves.{byte_format, number64_format, string_forma
 use Rattle.sshkey_model.specs.Reading.{Fault, FormatEncoding, ◌>>=◌}
 use Rattle.sshkey_model.specs.Terms.{◌then◌, boxed, called, tested}
 use Rattle.sshkey_model.specs.ToEnd.{values_to_end}
-use Rattle.sshkey_krl.specs.Revocation.{KeyIds, Numbers, Part, without_zero}
-use Rattle.sshkey_krl.specs.Serials.{Listed, bitmap_from, range_from, serial_from}
+use Rattle.sshkey_krl.specs.Revocation.{KeyIds, Numbers, Part, without_zero, Listed, bitmap_from, range_from, serial_from}
 use Rattle.sshkey_krl.specs.declared.part.PartKind.{PartKind}
 use Rattle.sshkey_krl.specs.declared.part.PartKind.TheVariants as kinds
 

@@ -5,10 +5,8 @@ use Rattle.sshkey_model.specs.Keys.{Key, Ed25519, normal_key}
 use Rattle.sshkey_model.specs.Parts.{flat}
 use Rattle.sshkey_model.specs.Reading.{whole}
 use Rattle.sshkey_krl.specs.Krls.{krl_format, magic}
-use Rattle.sshkey_krl.specs.Renamed.{ssh_rsa}
-use Rattle.sshkey_krl.specs.Revocation.{Everybody, Signer, begun}
-use Rattle.sshkey_krl.specs.Serials.{bit_len, is_negative, significant}
-use Rattle.sshkey_krl.specs.Written.{authority_string, certificates_section, has_zero, header, key_id_part, key_section, range_part, serials_part, sha1_section}
+use Rattle.sshkey_krl.specs.Writing.{ssh_rsa, authority_string, certificates_section, has_zero, header, key_id_part, key_section, range_part, serials_part, sha1_section}
+use Rattle.sshkey_krl.specs.Revocation.{Everybody, Signer, begun, bit_len, is_negative, significant}
 
 abbrev front : List ℕ
 front = hex "5353484b524c0a00 00000001 0000000000000003 000000006b0e1170 0000000000000000 00000000 00000000"

@@ -3,11 +3,9 @@
 ghost use Rattle.std.specs.Prelude.{◌≡◌, ◌≤◌, ◌&&◌, bytes_eq, drop, length, take};
 ghost use Rattle.sshkey_model.specs.Keys.{Key, normal_key, SpellsKey};
 ghost use Rattle.sshkey_model.specs.Parts.{flat};
-ghost use Rattle.sshkey_keys_ref.specs.KeyDataRef.{key_bytes};
-ghost use Rattle.sshkey_krl.specs.Owned.{authority_of};
-ghost use Rattle.sshkey_krl.specs.Renamed.{ssh_rsa};
-ghost use Rattle.sshkey_krl.specs.Sections.{is_read_signer};
-ghost use Rattle.sshkey_krl.specs.Written.{is_read_authority};
+ghost use Rattle.sshkey_keys_ref.specs.Keys.{key_bytes};
+ghost use Rattle.sshkey_krl.specs.Writing.{authority_of, ssh_rsa, is_read_authority};
+ghost use Rattle.sshkey_krl.specs.Krls.{is_read_signer};
 
 use openssh_limits::{LEAST_RSA_BITS, is_read_key_ref, openssh_reads_key};
 use sshkey_keys::KeyData;

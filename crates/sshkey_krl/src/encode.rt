@@ -6,8 +6,7 @@ ghost use Rattle.sshkey_keys.specs.Keys.{key_of};
 ghost use Rattle.sshkey_model.specs.Keys.{normal_key};
 ghost use Rattle.sshkey_model.specs.Parts.{◌&◌, box, each, number};
 ghost use Rattle.sshkey_model.specs.Texts.{string};
-ghost use Rattle.sshkey_krl.specs.Owned.{authority_of};
-ghost use Rattle.sshkey_krl.specs.Written.{Appends, authority_string, certificates_section, framed, header};
+ghost use Rattle.sshkey_krl.specs.Writing.{authority_of, Appends, authority_string, certificates_section, framed, header};
 
 use sshkey_base::{
     Encode, Error, Result, Writer, both_len, encode_both, encode_each, encode_string, encoding,

@@ -35,11 +35,9 @@ impl Krl {
     ghost use Rattle.sshkey_terms.specs.Slices.{AcceptsAll, Keeps};
     ghost use Rattle.sshkey_krl.specs.KrlRef.{krl_bytes as ref_bytes};
     ghost use Rattle.sshkey_krl.specs.Krls.{SpellsKrl};
-    ghost use Rattle.sshkey_krl.specs.Owned.{Adds, AddsPart, BeginsList, Rejects, authority_of, krl_bytes, krl_of};
-    ghost use Rattle.sshkey_krl.specs.Revocation.{KeyIds, Keys, Numbers, Sha1s, Sha256s};
-    ghost use Rattle.sshkey_krl.specs.Serials.{Listed};
-    ghost use Rattle.sshkey_krl.specs.Serials as serials;
-    ghost use Rattle.sshkey_krl.specs.Written.{IsWellFormedAuthority, has_zero, is_read_authority, key_id_part, key_section, range_part, serials_part, sha1_section, sha256_section};
+    ghost use Rattle.sshkey_krl.specs.Writing.{Adds, AddsPart, BeginsList, Rejects, authority_of, krl_bytes, krl_of, IsWellFormedAuthority, has_zero, is_read_authority, key_id_part, key_section, range_part, serials_part, sha1_section, sha256_section};
+    ghost use Rattle.sshkey_krl.specs.Revocation.{KeyIds, Keys, Numbers, Sha1s, Sha256s, Listed};
+    ghost use Rattle.sshkey_krl.specs.Revocation as serials;
 
     /// A list with that number, date and comment that revokes nothing. The date is in seconds since
     /// 1970.
@@ -213,7 +211,7 @@ impl Krl {
 /// Revokes what the list does.
 impl Revocations for Krl {
     ghost use Rattle.std.specs.Prelude.{false};
-    ghost use Rattle.sshkey_krl.specs.Owned.{krl_of};
+    ghost use Rattle.sshkey_krl.specs.Writing.{krl_of};
     ghost use Rattle.sshkey_krl.specs.Revocation as list;
 
     ghost revokes = { λ krl key asked. list.revokes (krl_of krl) key asked };

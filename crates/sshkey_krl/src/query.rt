@@ -3,10 +3,9 @@
 ghost use Rattle.std.specs.Prelude.{◌≡◌, is_some};
 ghost use Rattle.sshkey_model.specs.Keys.{Key as PublicKey, normal_key, SpellsKey};
 ghost use Rattle.sshkey_model.specs.Parts.{flat};
-ghost use Rattle.sshkey_keys_ref.specs.KeyDataRef.{key_bytes};
+ghost use Rattle.sshkey_keys_ref.specs.Keys.{key_bytes};
 ghost use Rattle.sshkey_krl.specs.Query.{certificate_query, identity_in, key_query, key_says, part_says, query_of, sha1_says, sha256_says, signer_says};
-ghost use Rattle.sshkey_krl.specs.Revocation.{Numbers};
-ghost use Rattle.sshkey_krl.specs.Serials.{Bitmap, Range};
+ghost use Rattle.sshkey_krl.specs.Revocation.{Numbers, Bitmap, Range};
 
 use crate::asked_key::Key;
 use crate::authority::is_normal_form;

@@ -3,7 +3,7 @@
 ghost use denote.Ref.{Bor};
 ghost use Rattle.std.specs.List.{list_any};
 ghost use Rattle.std.specs.Prelude.{◌≡◌, ℕ, Bool, false, true, IfErr, IfOk, List};
-ghost use Rattle.sshkey_cert.specs.CertificateValues.{certificate_of};
+ghost use Rattle.sshkey_cert.specs.Certificates.{certificate_of};
 ghost use Rattle.sshkey_keys.specs.Keys.{key_of};
 ghost use Rattle.sshkey_krl.specs.KrlRef.{krl_of};
 ghost use Rattle.sshkey_krl.specs.declared.krl_ref.KrlRef as slices;

@@ -8,7 +8,7 @@ ghost use Rattle.sshkey_model.specs.Leaves.{array_format, string_format};
 ghost use Rattle.sshkey_model.specs.Reading.{checked_whole, list_whole, whole};
 ghost use Rattle.sshkey_krl.specs.Query.{authority_says, key_says, query_of, says, sha1_says, sha256_says};
 ghost use Rattle.sshkey_krl.specs.Revocation as model;
-ghost use Rattle.sshkey_krl.specs.Sections.{authority_from, body, kind_from, section_format};
+ghost use Rattle.sshkey_krl.specs.Krls.{authority_from, body, kind_from, section_format};
 ghost use Rattle.sshkey_krl.specs.declared.section.SectionKind.TheVariants as kinds;
 
 use crate::authority::is_read_signer;

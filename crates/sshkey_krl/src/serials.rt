@@ -3,7 +3,7 @@
 ghost use Rattle.std.specs.Prelude.{◌≡◌};
 ghost use Rattle.sshkey_base.specs.Answers.{AnswersAlways};
 ghost use Rattle.sshkey_base.specs.Causes.{cause};
-ghost use Rattle.sshkey_krl.specs.Serials.{Bitmap, Range, bitmap_from, fits, has_bit, is_bitmap, is_negative, range_from, serial_from, significant};
+ghost use Rattle.sshkey_krl.specs.Revocation.{Bitmap, Range, bitmap_from, fits, has_bit, is_bitmap, is_negative, range_from, serial_from, significant};
 
 use sshkey_base::{Error, Result};
 

@@ -15,10 +15,8 @@ use Rattle.std.proofs.lemmas.Option.{none-some}
 use Rattle.std.proofs.lemmas.Slice.Eq.{bytes_eq-Decides}
 use Rattle.sshkey_matching.specs.Patterns.{exclamation_mark, unmarked}
 use Rattle.sshkey_matching.proofs.PatternTests.{decides_all, decides_any, decides_match, matches}
-use Rattle.sshkey_matching.specs.FromLists.{Client, DecidesFrom, IsFor, IsFromPiece, IsHostName, IsSeen, LetsFrom, Names, Refuses, host_of}
-use Rattle.sshkey_matching.specs.Likeness.{IsPlainPattern, is_like_address, is_pattern_character, is_wild}
-use Rattle.sshkey_matching.specs.Networks.{Covers, IsAmong, IsNetwork, IsSomeNetwork, IsWhole, number, width}
-use Rattle.sshkey_matching.specs.SourceAddresses.{ComesFrom, Has, IsLinkLocal, IsNetworks, IsSeenAs, MayComeFrom, pieces}
+use Rattle.sshkey_matching.specs.FromLists.{Client, DecidesFrom, IsFor, IsFromPiece, IsHostName, IsSeen, LetsFrom, Names, Refuses, host_of, IsPlainPattern, is_like_address, is_pattern_character, is_wild}
+use Rattle.sshkey_matching.specs.SourceAddresses.{Covers, IsAmong, IsNetwork, IsSomeNetwork, IsWhole, number, width, ComesFrom, Has, IsLinkLocal, IsNetworks, IsSeenAs, MayComeFrom, pieces}
 use Rattle.sshkey_matching.specs.declared.from.FromFault.{FromFault}
 use Rattle.sshkey_matching.specs.declared.from.FromFault.TheVariants.{Address, Host, List as Pieces}
 use Rattle.sshkey_matching.proofs.Seen.{seen_once}

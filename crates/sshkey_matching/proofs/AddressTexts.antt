@@ -12,7 +12,7 @@ use Rattle.std.proofs.Math.Seq.{get_or-append_seam, drop-append-add}
 use Rattle.std.proofs.lemmas.List.Splits.{slice_split_at}
 use Rattle.std.proofs.lemmas.Str.Pattern.{IsSplitOnceResult, split_after, split_parts}
 use Rattle.std.proofs.NetLemmas.Theorems.{IsIpText_unique}
-use Rattle.sshkey_matching.specs.Networks.{width, WritesNetwork, IsWhole, IsNetwork, IsSomeNetwork, IsAmong, Covers}
+use Rattle.sshkey_matching.specs.SourceAddresses.{width, WritesNetwork, IsWhole, IsNetwork, IsSomeNetwork, IsAmong, Covers}
 
 abbrev pub IsNoSlash : ℕ → Type 0
 IsNoSlash c = c ≢ 47

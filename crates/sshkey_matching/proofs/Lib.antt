@@ -2,13 +2,10 @@ pub mod AddressTests
 pub mod AddressTexts
 pub mod AskedHosts
 pub mod Calendar
-pub mod HostTests
-pub mod Lets
-pub mod Marks
+pub mod FromLists
 pub mod Matching
 pub mod PatternLists
 pub mod PatternTests
-pub mod Pieces
 pub mod Seen
 pub mod Tables
 pub mod TextTests

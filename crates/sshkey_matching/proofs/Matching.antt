@@ -4,8 +4,7 @@ use Rattle.std.proofs.lemmas.List.{take-append-drop, length-drop, drop-drop}
 use Rattle.std.proofs.lemmas.Bool.{cases_lt}
 use Rattle.std.proofs.Math.ListN.{drop_of_length-le}
 use Rattle.std.proofs.Math.Seq.{drop-append_seam, take-length}
-use Rattle.sshkey_matching.specs.Patterns.{Matches, StandsFor, star}
-use Rattle.sshkey_matching.specs.Matching.{GoesOn, HasFront, IsStuck, MatchesLater}
+use Rattle.sshkey_matching.specs.Patterns.{Matches, StandsFor, star, GoesOn, HasFront, IsStuck, MatchesLater}
 
 module _ (fold : ℕ → ℕ) where
   -- ---- a star

@@ -8,8 +8,7 @@ use Rattle.std.proofs.lemmas.List.Sums.{fails_before_first}
 use Rattle.std.proofs.lemmas.List.Elements.{All-nil, All-cons, All-head, All-tail, All-from_get_or}
 use Rattle.std.proofs.lemmas.List.Splits.{slice_split_at, slice_split_none, slice_split_first, length-slice_split}
 use Rattle.std.proofs.lemmas.Str.Pattern.{IsSplitOnceResult, split_parts, split_once_first}
-use Rattle.sshkey_matching.specs.Commas.{patterns, without_empty_last, is_comma}
-use Rattle.sshkey_matching.specs.Patterns.{IsShortPattern, MatchesUnnegated, MatchesNegated}
+use Rattle.sshkey_matching.specs.Patterns.{patterns, without_empty_last, is_comma, IsShortPattern, MatchesUnnegated, MatchesNegated}
 
 -- ---- the patterns of a list
 

@@ -7,8 +7,7 @@ use Rattle.std.proofs.lemmas.Bool.Decides.{Decides-and, Decides-or, Decides-not,
 use Rattle.std.proofs.lemmas.List.{take-append-drop}
 use Rattle.std.proofs.lemmas.List.Folds.{Any-from_list_any, list_any-from_Any}
 use Rattle.std.proofs.Math.Seq.{drop-append_seam, take-append_seam}
-use Rattle.sshkey_matching.specs.Commas.{patterns}
-use Rattle.sshkey_matching.specs.Patterns.{IsNamed, IsShortPattern, Matches, MatchesList, MatchesNegated, MatchesUnnegated, StandsFor, exclamation_mark, question_mark, star, unmarked}
+use Rattle.sshkey_matching.specs.Patterns.{patterns, IsNamed, IsShortPattern, Matches, MatchesList, MatchesNegated, MatchesUnnegated, StandsFor, exclamation_mark, question_mark, star, unmarked}
 use Rattle.std.specs.Prelude.{nat_lt}
 
 -- ---- of each and of some

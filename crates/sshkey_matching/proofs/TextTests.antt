@@ -14,7 +14,7 @@ use Rattle.std.proofs.NetLemmas.Ipv6.{read_ipv6_complete, read_ipv6_sound, EndsG
 use Rattle.std.proofs.lemmas.Bool.Decides.{Decides-and, Decides-ltb, Decides-like}
 use Rattle.std.proofs.lemmas.List.Elements.{All-head, All-tail}
 use Rattle.std.proofs.lemmas.Option.{none-some, same_Some}
-use Rattle.sshkey_matching.specs.Networks.{width, WritesNetwork}
+use Rattle.sshkey_matching.specs.SourceAddresses.{width, WritesNetwork}
 use Rattle.sshkey_matching.proofs.AddressTexts.{IsNoSlash, address_free}
 
 -- ---- an address

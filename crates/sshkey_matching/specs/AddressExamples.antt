@@ -4,8 +4,7 @@ use Rattle.std.specs.Prelude.{◌≡◌, ℕ, List, [], ◌∷◌, ◌++◌, Boo
 use Rattle.std.specs.List.{All, list_all, list_any}
 use Rattle.std.specs.declared.net.ip_addr.IpAddr.{IpAddr}
 use Rattle.std.specs.declared.net.ip_addr.IpAddr.TheVariants.{V4, V6}
-use Rattle.sshkey_matching.specs.FromLists.{DecidesFrom, DecidesFromAt}
-use Rattle.sshkey_matching.specs.Likeness.{is_like_address, is_pattern_character}
+use Rattle.sshkey_matching.specs.FromLists.{DecidesFrom, DecidesFromAt, is_like_address, is_pattern_character}
 use Rattle.sshkey_matching.specs.SourceAddresses.{MayComeFrom}
 use Rattle.sshkey_matching.specs.declared.from.FromFault.{FromFault}
 use Rattle.sshkey_matching.specs.declared.from.FromFault.TheVariants.{Address, Host, List as Pieces}

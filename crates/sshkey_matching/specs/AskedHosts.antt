@@ -6,8 +6,7 @@ use Rattle.std.specs.Net.Grammar.{IsIpText}
 use Rattle.std.specs.Net.Text.{ip_text}
 use Rattle.std.specs.declared.net.ip_addr.IpAddr.{IpAddr}
 use Rattle.std.specs.declared.net.ip_addr.IpAddr.TheVariants.{V4, V6}
-use Rattle.sshkey_matching.specs.FromLists.{IsIpv4Compatible}
-use Rattle.sshkey_matching.specs.Likeness.{is_like_address}
+use Rattle.sshkey_matching.specs.FromLists.{IsIpv4Compatible, is_like_address}
 use Rattle.sshkey_matching.specs.declared.host.AskedHost.{AskedHost}
 use Rattle.sshkey_matching.specs.declared.host.AskedHost.TheVariants.{Name, Address as Written}
 use Rattle.sshkey_matching.specs.declared.host.HostFault.{HostFault}

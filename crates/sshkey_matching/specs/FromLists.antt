@@ -1,8 +1,7 @@
--- Where a line of authorized_keys lets its key's holder come from (sshd(8), "from=").
-use Rattle.std.specs.Prelude.{◌≡◌, ◌≢◌, ◌⊎◌, ◌↔◌, ◌<◌, ◌^◌, ℕ, List, Bool, false, IsTrue, slice_index}
+-- Which patterns nobody could take for an address.
+use Rattle.std.specs.Prelude.{◌<◌, ◌==◌, ◌||◌, ◌&&◌, not, ℕ, List, Bool, IsTrue, length, slice_index, nat_le, ◌≡◌, ◌≢◌, ◌⊎◌, ◌↔◌, ◌^◌, false, Result, Ok, Err, Option, Some, None}
+use Rattle.std.specs.List.{list_any, list_all, All, Any}
 use Rattle.std.specs.Char.{to_ascii_lowercase}
-use Rattle.std.specs.List.{All, Any}
-use Rattle.std.specs.Prelude.{Result, Ok, Err, Option, Some, None}
 use Rattle.std.specs.Net.Grammar.{IsIpText}
 use Rattle.std.specs.Net.Text.{ip_text}
 use Rattle.std.specs.Net.Addr.{IsIpv4Mapped, ipv6_bits, ipv6_segments}
@@ -10,12 +9,49 @@ use Rattle.std.specs.declared.net.ip_addr.IpAddr.{IpAddr}
 use Rattle.std.specs.declared.net.ipv6_addr.Ipv6Addr.{Ipv6Addr}
 use Rattle.std.specs.declared.net.ip_addr.IpAddr.TheVariants.{V4, V6}
 use Rattle.sshkey_matching.specs.Patterns.{Matches, exclamation_mark, unmarked}
-use Rattle.sshkey_matching.specs.Networks.{IsSomeNetwork, Covers}
-use Rattle.sshkey_matching.specs.SourceAddresses.{pieces, IsLinkLocal, IsSeenAs}
-use Rattle.sshkey_matching.specs.Likeness.{is_like_address, IsPlainPattern}
+use Rattle.sshkey_matching.specs.SourceAddresses.{IsSomeNetwork, Covers, pieces, IsLinkLocal, IsSeenAs}
 use Rattle.sshkey_matching.specs.declared.from.FromFault.{FromFault}
 use Rattle.sshkey_matching.specs.declared.from.FromFault.TheVariants.{Address, Host, List as Pieces, Memory}
 use denote.Ref.{Bor}
+
+abbrev pub has : ℕ → List ℕ → Bool
+has c text = list_any (λ x. x == c) text
+
+-- It holds a `*` or a `?`.
+abbrev pub is_wild : List ℕ → Bool
+is_wild text = has 0x2a text || has 0x3f text
+
+abbrev pub is_digit : ℕ → Bool
+is_digit c = nat_le 0x30 c && nat_le c 0x39
+
+-- a digit, a dot, one of the letters a to f, or x, in either case
+abbrev pub is_number_character : ℕ → Bool
+is_number_character c = is_digit c || (c == 0x2e) || (nat_le 0x61 c && nat_le c 0x66) || (nat_le 0x41 c && nat_le c 0x46) || (c == 0x78) || (c == 0x58)
+
+-- inet_aton(3) may take it for a number, or for several with dots between.
+abbrev pub is_like_number : List ℕ → Bool
+is_like_number text = is_digit (slice_index text 0) && list_all is_number_character text
+
+-- It holds a colon, or is like a number.
+abbrev pub is_like_address : List ℕ → Bool
+is_like_address text = has 0x3a text || is_like_number text
+
+abbrev pub is_letter : ℕ → Bool
+is_letter c = (nat_le 0x61 c && nat_le c 0x7a) || (nat_le 0x41 c && nat_le c 0x5a)
+
+-- a letter, a digit, a hyphen, a dot, an underscore or a colon, as names and addresses have, `*` or `?`
+abbrev pub is_pattern_character : ℕ → Bool
+is_pattern_character c = is_letter c || is_digit c || (c == 0x2d) || (c == 0x2e) || (c == 0x5f) || (c == 0x3a) || (c == 0x2a) || (c == 0x3f)
+
+-- It is not empty, shorter than 1,023 bytes, and of these characters. It holds a `*` or a `?`; or it
+-- is like no address.
+pub record IsPlainPattern (text : List ℕ) : Type 0 where
+  pub some : 0 < length text
+  pub short : length text < 1023
+  pub characters : IsTrue (list_all is_pattern_character text)
+  pub no_address : IsTrue (is_wild text || not (is_like_address text))
+
+-- Where a line of authorized_keys lets its key's holder come from (sshd(8), "from=").
 
 -- A client as sshd sees it: its address, the text of that, and its host's name, or the text again.
 pub record Client : Type 0 where

@@ -1,15 +1,10 @@
 pub mod AddressExamples
 pub mod AskedExamples
 pub mod AskedHosts
-pub mod Commas
+pub mod Patterns
 pub mod FromLists
 pub mod HostExamples
-pub mod LetterCases
-pub mod Likeness
-pub mod Matching
-pub mod Networks
-pub mod PatternExamples
-pub mod Patterns
 pub mod SourceAddresses
+pub mod PatternExamples
 pub mod TimeExamples
 pub mod Times

@@ -2,8 +2,7 @@
 -- "PATTERNS"), on both sides of each edge. A row is a pattern, or a list of them, and a text.
 use Rattle.std.specs.Prelude.{ℕ, List, [], ◌∷◌, ◌++◌, codes, replicate}
 use Rattle.std.specs.List.{All}
-use Rattle.sshkey_matching.specs.LetterCases.{fold_of}
-use Rattle.sshkey_matching.specs.Patterns.{Matches, MatchesList}
+use Rattle.sshkey_matching.specs.Patterns.{fold_of, Matches, MatchesList}
 use Rattle.sshkey_matching.specs.declared.pattern.LetterCase.{LetterCase}
 use Rattle.sshkey_matching.specs.declared.pattern.LetterCase.TheVariants.{Sensitive, Insensitive}
 

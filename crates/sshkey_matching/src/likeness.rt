@@ -2,7 +2,7 @@
 
 ghost use Rattle.std.specs.Prelude.{◌≡◌, ◌↔◌, IsTrue};
 ghost use Rattle.std.specs.List.{list_all};
-ghost use Rattle.sshkey_matching.specs.Likeness.{has, is_wild, is_digit, is_number_character, is_like_number, is_like_address, is_letter, is_pattern_character, IsPlainPattern};
+ghost use Rattle.sshkey_matching.specs.FromLists.{has, is_wild, is_digit, is_number_character, is_like_number, is_like_address, is_letter, is_pattern_character, IsPlainPattern};
 
 /// The least number of bytes that is too long for a pattern: OpenSSH has 1,024 bytes for one.
 const TOO_LONG: usize = 1023;

@@ -3,7 +3,7 @@
 ghost use Rattle.std.specs.Prelude.{◌≡◌, ◌↔◌, ◌≤◌, ◌<◌, ◌^◌, ℕ, IsTrue, length, MatchOption};
 ghost use Rattle.std.specs.Net.Grammar.{IsNumber};
 ghost use Rattle.std.specs.declared.net.ip_addr.IpAddr.{IpAddr};
-ghost use Rattle.sshkey_matching.specs.Networks.{width, number, WritesNetwork, IsWhole, IsNetwork, IsSomeNetwork, IsAmong, Covers};
+ghost use Rattle.sshkey_matching.specs.SourceAddresses.{width, number, WritesNetwork, IsWhole, IsNetwork, IsSomeNetwork, IsAmong, Covers};
 
 use crate::bits::{front_bits, last_bits};
 use std::net::IpAddr;

@@ -2,9 +2,7 @@
 //! character of the pattern at the most.
 
 ghost use Rattle.std.specs.Prelude.{◌≡◌, ◌≢◌, ◌↔◌, IsTrue, [], ◌∷◌, slice_index};
-ghost use Rattle.sshkey_matching.specs.Patterns.{Matches, StandsFor, star};
-ghost use Rattle.sshkey_matching.specs.LetterCases.{fold_of};
-ghost use Rattle.sshkey_matching.specs.Matching.{FindsFront, GoesOn, IsStuck};
+ghost use Rattle.sshkey_matching.specs.Patterns.{Matches, StandsFor, star, fold_of, FindsFront, GoesOn, IsStuck};
 
 /// Whether the letters of a pattern match in their own case alone.
 #[derive(Clone, Copy, Debug)]

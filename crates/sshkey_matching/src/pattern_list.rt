@@ -2,9 +2,7 @@
 
 ghost use Rattle.std.specs.Prelude.{◌≡◌, ◌<◌, ◌∷◌, ◌↔◌, length, position, slice_index, IsTrue};
 ghost use Rattle.std.specs.List.{after_first, before_first};
-ghost use Rattle.sshkey_matching.specs.Commas.{is_comma, patterns};
-ghost use Rattle.sshkey_matching.specs.Patterns.{IsShortPattern, MatchesList, MatchesUnnegated, MatchesNegated, exclamation_mark, unmarked};
-ghost use Rattle.sshkey_matching.specs.LetterCases.{fold_of};
+ghost use Rattle.sshkey_matching.specs.Patterns.{is_comma, patterns, IsShortPattern, MatchesList, MatchesUnnegated, MatchesNegated, exclamation_mark, unmarked, fold_of};
 
 use crate::pattern::{LetterCase, is_match};
 

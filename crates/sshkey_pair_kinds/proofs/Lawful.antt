@@ -1,15 +1,30 @@
--- The formats of pairs are lawful.
-use Rattle.std.proofs.Common.{ℕ}
-use Rattle.sshkey_model.specs.Keys.{Key}
-use Rattle.sshkey_model.proofs.Grammars.{by_itself}
+-- Scalars are read exactly where they are spelled, and an ECDSA pair by its key.
+use Rattle.std.proofs.Common.{ℕ, refl}
+use Rattle.sshkey_model.specs.Grammar.{IsGrammar, value_at}
+use Rattle.sshkey_model.specs.Keys.{any_ecdsa_format, Key}
+use Rattle.sshkey_model.specs.KeyPairs.{SpellsScalar, scalar_at, scalar_whole, pair_of_key, any_ecdsa_pair_format, dsa_pair_format, rsa_private_format, rsa_pair_format, ed25519_pair_format, scalar_format, security_private_format, sk_ecdsa_pair_format, sk_ed25519_pair_format}
+use Rattle.sshkey_model.proofs.Grammars.{grammar_with, by_itself}
+use Rattle.sshkey_model.proofs.KeyPairReaders.{scalar_reads}
+use Rattle.sshkey_model.specs.Overruns.{OverrunsString, AreLengths}
+use Rattle.sshkey_base.proofs.Lengths.{box_lengths}
+use Rattle.sshkey_terms.proofs.Lawful.{IsChosen, called_chosen, called_lawful, tested_lawful, then_lawful, without_memory_lawful}
 use Rattle.sshkey_model.specs.Formats.{IsFormat}
 use Rattle.sshkey_model.specs.Leaves.{array_format}
 use Rattle.sshkey_base.proofs.Lawful.{array_lawful, byte_lawful, mpint_lawful, string_lawful}
 use Rattle.sshkey_model.specs.Terms.{◌then◌}
-use Rattle.sshkey_terms.proofs.Lawful.{called_lawful, tested_lawful, then_lawful, without_memory_lawful}
 use Rattle.sshkey_kinds.proofs.Lawful.{dsa_lawful, any_ecdsa_lawful, sk_ecdsa_lawful, sk_ed25519_lawful}
-use Rattle.sshkey_model.specs.KeyPairs.{dsa_pair_format, rsa_private_format, rsa_pair_format, ed25519_pair_format, scalar_format, pair_of_key, any_ecdsa_pair_format, security_private_format, sk_ecdsa_pair_format, sk_ed25519_pair_format}
-use Rattle.sshkey_pair_kinds.proofs.PairReaders.{scalar_grammar, scalar_lengths}
+
+pub scalar_grammar : (size : ℕ) → IsGrammar (SpellsScalar size) (value_at (scalar_at size))
+scalar_grammar size = grammar_with (scalar_reads size)
+
+pub scalar_lengths : (size : ℕ) → AreLengths (value_at (scalar_at size)) OverrunsString
+unfolding scalar_at
+scalar_lengths size b m o = rw (box_lengths (scalar_whole size) b m o) refl
+
+pub ecdsa_pair_chosen : IsChosen any_ecdsa_pair_format.read any_ecdsa_format.read (λ k. (pair_of_key k).read)
+ecdsa_pair_chosen = called_chosen any_ecdsa_format.read (λ k. (pair_of_key k).read)
+
+-- The formats of pairs are lawful.
 
 pub dsa_pair_lawful : IsFormat dsa_pair_format
 dsa_pair_lawful = tested_lawful _ (then_lawful dsa_lawful mpint_lawful)

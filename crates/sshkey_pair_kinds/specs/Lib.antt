@@ -1,4 +1,3 @@
-pub mod PrivateHalves
 pub mod Pairs
 pub mod SkEcdsaSha2NistP256
 pub mod SkEd25519

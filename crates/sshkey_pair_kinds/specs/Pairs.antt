@@ -1,16 +1,34 @@
--- What each kind of pair means.
+-- What the private halves of pairs mean.
 use Rattle.std.specs.Prelude.{ℕ, List, ◌==◌, length, take, drop, Ok, Err, if◌then◌else◌}
+use Rattle.sshkey_model.specs.KeyPairs.{RsaPrivate, KeyPair, DsaPair, EcdsaPair, Ed25519Pair, RsaPair}
+use Rattle.sshkey_base.specs.Mpint.{mpint_of}
+use Rattle.sshkey_pair_kinds.specs.declared.dsa.DsaPrivateKey.{DsaPrivateKey}
+use Rattle.sshkey_pair_kinds.specs.declared.ecdsa.EcdsaPrivateKey.{EcdsaPrivateKey}
+use Rattle.sshkey_pair_kinds.specs.declared.ed25519.Ed25519PrivateKey.{Ed25519PrivateKey}
+use Rattle.sshkey_pair_kinds.specs.declared.rsa.RsaPrivateKey.{RsaPrivateKey}
 use Rattle.sshkey_model.specs.Reading.{Whole, Length}
 use Rattle.sshkey_model.specs.Names.{Curve, Nistp256, Nistp384, Nistp521}
-use Rattle.sshkey_model.specs.KeyPairs.{KeyPair, DsaPair, EcdsaPair, Ed25519Pair, RsaPair}
-use Rattle.sshkey_base.specs.Mpint.{mpint_of}
 use Rattle.sshkey_kinds.specs.EcPoint.{point_of}
 use Rattle.sshkey_pair_kinds.specs.declared.dsa.DsaKeypair.{DsaKeypair}
 use Rattle.sshkey_pair_kinds.specs.declared.rsa.RsaKeypair.{RsaKeypair}
 use Rattle.sshkey_pair_kinds.specs.declared.ecdsa.EcdsaKeypair.{EcdsaKeypair}
 use Rattle.sshkey_pair_kinds.specs.declared.ecdsa.EcdsaKeypair.TheVariants as on
 use Rattle.sshkey_pair_kinds.specs.declared.ed25519.Ed25519Keypair.{Ed25519Keypair}
-use Rattle.sshkey_pair_kinds.specs.PrivateHalves.{dsa_private_of, ecdsa_private_of, ed25519_private_of, rsa_private_of}
+
+abbrev pub dsa_private_of : DsaPrivateKey → List ℕ
+dsa_private_of k = mpint_of k.inner.0
+
+-- the scalar, as wide as the field
+abbrev pub ecdsa_private_of : {size : ℕ} → EcdsaPrivateKey size → List ℕ
+ecdsa_private_of k = k.bytes
+
+abbrev pub ed25519_private_of : Ed25519PrivateKey → List ℕ
+ed25519_private_of k = k.bytes
+
+abbrev pub rsa_private_of : RsaPrivateKey → RsaPrivate
+rsa_private_of r = record { d = mpint_of r.d; iqmp = mpint_of r.iqmp; p = mpint_of r.p; q = mpint_of r.q }
+
+-- What each kind of pair means.
 
 abbrev pub dsa_pair_of : DsaKeypair → KeyPair
 dsa_pair_of k = DsaPair (record { p = mpint_of k.public.p; q = mpint_of k.public.q; g = mpint_of k.public.g; y = mpint_of k.public.y }) (dsa_private_of k.private)

@@ -6,7 +6,7 @@ ghost use Rattle.sshkey_model.specs.KeyPairs.{KeyPair, pair, Plain};
 ghost use Rattle.sshkey_model.specs.Mpints.{mpint_at};
 ghost use Rattle.sshkey_model.specs.Texts.{string};
 ghost use Rattle.sshkey_base.specs.Mpint.{mpint_of};
-ghost use Rattle.sshkey_pair_kinds.specs.PrivateHalves.{dsa_private_of};
+ghost use Rattle.sshkey_pair_kinds.specs.Pairs.{dsa_private_of};
 
 use sshkey_base::{
     Decode, Encode, Error, Mpint, Reader, Result, Secret, Writer, both_len, encode_both, encoding,

@@ -15,8 +15,7 @@ ghost use Rattle.sshkey_base.specs.Source.{Later};
 ghost use Rattle.sshkey_base.specs.declared.encoding.Error.TheVariants as narrow;
 ghost use Rattle.sshkey_base.specs.declared.error.Error.TheVariants as wide;
 ghost use Rattle.sshkey_kinds.specs.EcdsaPublicKey.{ecdsa_key_of};
-ghost use Rattle.sshkey_pair_kinds.specs.Pairs.{ecdsa_pair_of};
-ghost use Rattle.sshkey_pair_kinds.specs.PrivateHalves.{ecdsa_private_of};
+ghost use Rattle.sshkey_pair_kinds.specs.Pairs.{ecdsa_pair_of, ecdsa_private_of};
 
 use sshkey_base::{
     Algorithm, Decode, EcdsaCurve, Encode, Error, Mpint, Reader, Result, Writer, both_len,
@@ -332,7 +331,7 @@ impl From<EcdsaKeypair> for EcdsaPublicKey {
 ///
 /// Fails with the errors of `EcdsaPublicKey`, and then with those of `EcdsaPrivateKey` for a scalar
 /// as wide as the field of that key's curve.
-#[tactic(auto, using(crate::proofs::Lawful::any_ecdsa_pair_lawful, sshkey_terms::proofs::Chosen::chosen, sshkey_terms::proofs::Needless::needless_parts, crate::proofs::PairReaders::ecdsa_pair_chosen))]
+#[tactic(auto, using(crate::proofs::Lawful::any_ecdsa_pair_lawful, sshkey_terms::proofs::Chosen::chosen, sshkey_terms::proofs::Needless::needless_parts, crate::proofs::Lawful::ecdsa_pair_chosen))]
 impl Decode for EcdsaKeypair {
     type Error = Error;
 

@@ -8,8 +8,7 @@ ghost use Rattle.sshkey_base.specs.Answers.{AnswersAlways};
 ghost use Rattle.sshkey_base.specs.Causes.{cause};
 ghost use Rattle.sshkey_model.specs.KeyPairs.{KeyPair, Ed25519Pair, pair, Plain, ed25519_halves_from, ed25519_pair_format};
 ghost use Rattle.sshkey_kinds.specs.Ed25519PublicKey.{ed25519_from};
-ghost use Rattle.sshkey_pair_kinds.specs.Pairs.{ed25519_pair_of, ed25519_pair_from};
-ghost use Rattle.sshkey_pair_kinds.specs.PrivateHalves.{ed25519_private_of};
+ghost use Rattle.sshkey_pair_kinds.specs.Pairs.{ed25519_pair_of, ed25519_pair_from, ed25519_private_of};
 
 use rand_core::{CryptoRng, Rng};
 use sshkey_base::{

@@ -1,8 +1,7 @@
 //! Laws of spelling, equality and order. They make no call: each is a fact about the definitions.
 
 ghost use Rattle.sshkey_base.specs.Comparisons.{IsEqualityOf, IsOrderByParts};
-ghost use Rattle.sshkey_pair_kinds.specs.Pairs.{dsa_pair_of, ecdsa_pair_of, ed25519_pair_of, rsa_pair_of};
-ghost use Rattle.sshkey_pair_kinds.specs.PrivateHalves.{dsa_private_of, ecdsa_private_of, ed25519_private_of, rsa_private_of};
+ghost use Rattle.sshkey_pair_kinds.specs.Pairs.{dsa_pair_of, ecdsa_pair_of, ed25519_pair_of, rsa_pair_of, dsa_private_of, ecdsa_private_of, ed25519_private_of, rsa_private_of};
 ghost use Rattle.sshkey_pair_kinds.specs.SkKeypairs.{sk_ecdsa_pair_of, sk_ecdsa_pair_parts, sk_ed25519_pair_of, sk_ed25519_pair_parts};
 
 use crate::dsa::{DsaKeypair, DsaPrivateKey};

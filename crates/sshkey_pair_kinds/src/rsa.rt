@@ -34,7 +34,7 @@ impl Drop for RsaPrivateKey {
 }
 
 impl RsaPrivateKey {
-    ghost use Rattle.sshkey_pair_kinds.specs.PrivateHalves.{rsa_private_of};
+    ghost use Rattle.sshkey_pair_kinds.specs.Pairs.{rsa_private_of};
 
     /// A copy of the numbers. Fails only when out of memory.
     pub fn try_clone(&self, alloc: Global) -> Result<RsaPrivateKey>
@@ -60,7 +60,7 @@ impl RsaPrivateKey {
 #[tactic(auto, using(crate::proofs::Lawful::rsa_private_lawful, sshkey_terms::proofs::Mapped::mapped, sshkey_terms::proofs::Lawful::checked_read))]
 impl Decode for RsaPrivateKey {
     ghost use Rattle.sshkey_model.specs.KeyPairs.{rsa_private_format};
-    ghost use Rattle.sshkey_pair_kinds.specs.PrivateHalves.{rsa_private_of};
+    ghost use Rattle.sshkey_pair_kinds.specs.Pairs.{rsa_private_of};
 
     type Error = Error;
 
@@ -88,7 +88,7 @@ impl Decode for RsaPrivateKey {
 /// The numbers d, iqmp, p and q, each as a string.
 #[tactic(auto, using(sshkey_base::proofs::Writing::writing, sshkey_base::proofs::Writing::measuring))]
 impl Encode for RsaPrivateKey {
-    ghost use Rattle.sshkey_pair_kinds.specs.PrivateHalves.{rsa_private_of};
+    ghost use Rattle.sshkey_pair_kinds.specs.Pairs.{rsa_private_of};
 
     ghost normal = { λ r. rsa_private (rsa_private_of r) };
 

@@ -1,3 +1,1 @@
-pub mod KeypairReaders
-pub mod Lawful
-pub mod NormalPairs
+pub mod Keypairs

@@ -1,4 +1,1 @@
-pub mod OpaquePairs
 pub mod Keypairs
-pub mod PairKinds
-pub mod NormalPairs

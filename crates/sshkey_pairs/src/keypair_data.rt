@@ -10,8 +10,7 @@ ghost use Rattle.sshkey_keys.specs.Keys.{key_of, stored_algorithm as key_algorit
 ghost use Rattle.sshkey_model.specs.KeyPairs.{IsKeyPair, xor_all, words};
 ghost use Rattle.sshkey_model.specs.Keys.{IsKey, unhashed};
 ghost use Rattle.sshkey_model.specs.Names.{Dsa, Ecdsa, Ed25519, Rsa, SkEcdsa, SkEd25519 as AlgorithmSkEd25519, Other, algorithm_name};
-ghost use Rattle.sshkey_pairs.specs.Keypairs.{pair_fields, pair_of, keypair_parts, public_of, stored_algorithm, checkint_of, GivesPair, StopsPair, NeedsPair};
-ghost use Rattle.sshkey_pairs.specs.PairKinds.{is_encrypted};
+ghost use Rattle.sshkey_pairs.specs.Keypairs.{pair_fields, pair_of, keypair_parts, public_of, stored_algorithm, checkint_of, GivesPair, StopsPair, NeedsPair, is_encrypted};
 
 mod from;
 mod kinds;
@@ -187,7 +186,7 @@ impl KeypairData {
 ///
 /// An RSA pair may stand under a name with a hash, which is not kept. Fails with `Label` for a name
 /// of no algorithm, and with the faults of the kind.
-#[tactic(auto, using(crate::proofs::Lawful::keypair_lawful, sshkey_terms::proofs::Chosen::chosen, crate::proofs::KeypairReaders::keypair_chosen))]
+#[tactic(auto, using(crate::proofs::Keypairs::keypair_lawful, sshkey_terms::proofs::Chosen::chosen, crate::proofs::Keypairs::keypair_chosen))]
 impl Decode for KeypairData {
     ghost use Rattle.sshkey_model.specs.KeyPairs.{KeyPair, keypair_format};
 
@@ -310,9 +309,9 @@ impl Encode for KeypairData {
 
 /// A pair is well-formed where its format has it. An encrypted one never is: it is not spelled by
 /// itself.
-#[tactic(auto, using(crate::proofs::NormalPairs::keypair_normal))]
+#[tactic(auto, using(crate::proofs::Keypairs::keypair_normal))]
 impl NormalForm for KeypairData {
-    ghost use Rattle.sshkey_pairs.specs.NormalPairs.{IsWellFormedPair};
+    ghost use Rattle.sshkey_pairs.specs.Keypairs.{IsWellFormedPair};
 
     ghost IsWellFormed = { λ k. IsWellFormedPair (pair_of k) };
 

@@ -1,8 +1,7 @@
 //! Laws of spelling and equality. They make no call: each is a fact about the definitions.
 
 ghost use Rattle.sshkey_base.specs.Comparisons.{IsEqualityOf};
-ghost use Rattle.sshkey_pairs.specs.Keypairs.{pair_fields};
-ghost use Rattle.sshkey_pairs.specs.OpaquePairs.{nameless_pair_of, opaque_pair_fields, opaque_private_of};
+ghost use Rattle.sshkey_pairs.specs.Keypairs.{pair_fields, nameless_pair_of, opaque_pair_fields, opaque_private_of};
 
 use crate::keypair_data::KeypairData;
 use crate::opaque::{OpaqueKeypair, OpaqueKeypairBytes, OpaquePrivateKeyBytes};

@@ -7,7 +7,7 @@ ghost use Rattle.sshkey_model.specs.Names.{algorithm_name};
 ghost use Rattle.sshkey_model.specs.Texts.{string};
 ghost use Rattle.sshkey_base.specs.Names.{algorithm_of};
 ghost use Rattle.sshkey_kinds.specs.Comparisons.{opaque_fields};
-ghost use Rattle.sshkey_pairs.specs.OpaquePairs.{opaque_pair_of, opaque_private_of, nameless_pair_of};
+ghost use Rattle.sshkey_pairs.specs.Keypairs.{opaque_pair_of, opaque_private_of, nameless_pair_of};
 
 use sshkey_base::{
     Algorithm, Bytes, Decode, Encode, Error, Reader, Result, Secret, Writer, both_len, encode_both,

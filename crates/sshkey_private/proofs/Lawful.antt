@@ -15,10 +15,9 @@ use Rattle.sshkey_model.specs.Terms.{◌then◌}
 use Rattle.sshkey_terms.proofs.Lawful.{IsMapped, boxed_lawful, called_ends, called_lawful, literal_lawful, read_as_lawful, tested_lawful, then_lawful, without_memory_lawful}
 use Rattle.sshkey_keys.proofs.Lawful.{key_lawful}
 use Rattle.sshkey_ciphers.proofs.Lawful.{cipher_lawful, kdf_lawful, sealed_lawful}
-use Rattle.sshkey_pairs.proofs.Lawful.{keypair_lawful}
-use Rattle.sshkey_private.specs.Inner.{one_checkint, checkint_term, checkint_at, checkint_format, half_of, pair_term, pair_with_at, pair_format, unencrypted_of_parts, inner_term, inner_at, inner_format, part_format}
-use Rattle.sshkey_private.specs.Openings.{Opening, magic_format, one_key, one_format, sealing_format, opening_parts, opening_of_parts, opening_at, opening_format}
-use Rattle.sshkey_private.specs.PrivateKeyFormats.{key_of_part, unencrypted_below, unencrypted_format, encrypted_format, refused_format, content_term, OverrunsContent, content_format, file_format}
+use Rattle.sshkey_pairs.proofs.Keypairs.{keypair_lawful}
+use Rattle.sshkey_private.specs.PrivateParts.{one_checkint, checkint_term, checkint_at, checkint_format, half_of, pair_term, pair_with_at, pair_format, unencrypted_of_parts, inner_term, inner_at, inner_format, part_format}
+use Rattle.sshkey_private.specs.PrivateKeyFormats.{Opening, magic_format, one_key, one_format, sealing_format, opening_parts, opening_of_parts, opening_at, opening_format, key_of_part, unencrypted_below, unencrypted_format, encrypted_format, refused_format, content_term, OverrunsContent, content_format, file_format}
 use Rattle.sshkey_private.proofs.Padded.{padded_lawful}
 
 -- ---- the private part of a key that is not encrypted

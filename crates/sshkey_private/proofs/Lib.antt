@@ -1,14 +1,9 @@
 pub mod PaddedReaders
-pub mod ReadHalves
 pub mod KeyReaders
-pub mod KeyValues
 pub mod KeyForms
-pub mod KeyPrefixes
+pub mod PrivateKeyLaws
 pub mod NewKeys
-pub mod WrittenKeys
-pub mod Stopping
 pub mod Padded
 pub mod Lawful
 pub mod PrivateKeyGrammars
 pub mod PrivateKeyTrees
-pub mod PrivateKeyLaws

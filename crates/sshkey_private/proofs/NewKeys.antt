@@ -8,8 +8,7 @@ use Rattle.sshkey_base.specs.declared.error.Error.{Error}
 use Rattle.sshkey_base.specs.declared.error.Error.TheVariants as wide
 use Rattle.sshkey_pairs.specs.declared.keypair_data.KeypairData.{KeypairData}
 use Rattle.sshkey_pairs.specs.declared.keypair_data.KeypairData.TheVariants as kinds
-use Rattle.sshkey_pairs.specs.Keypairs.{pair_of, checkint_of}
-use Rattle.sshkey_pairs.specs.PairKinds.{is_encrypted}
+use Rattle.sshkey_pairs.specs.Keypairs.{pair_of, checkint_of, is_encrypted}
 use Rattle.sshkey_public.specs.PublicKeys.{comment_of}
 use Rattle.sshkey_private.specs.declared.private_key.PrivateKey.{PrivateKey}
 use Rattle.sshkey_private.specs.Forms.{has_form}

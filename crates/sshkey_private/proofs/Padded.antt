@@ -8,9 +8,9 @@ use Rattle.sshkey_model.proofs.CombinedReaders.{bind_ok, met, ok_is}
 use Rattle.sshkey_model.proofs.Grammars.{all_end, to_the_end, AllEnd}
 use Rattle.sshkey_model.specs.Formats.{Format, IsFormat}
 use Rattle.sshkey_model.specs.Overruns.{AreLengths}
-use Rattle.sshkey_ciphers.specs.Paddings.{end_padding_below}
-use Rattle.sshkey_ciphers.proofs.Paddings.{rising_length}
-use Rattle.sshkey_private.specs.Padded.{SpellsPadded, padded_below, padded_format}
+use Rattle.sshkey_ciphers.specs.Formats.{end_padding_below}
+use Rattle.sshkey_ciphers.proofs.Ciphertexts.{rising_length}
+use Rattle.sshkey_private.specs.PrivateParts.{SpellsPadded, padded_below, padded_format}
 
 module _ {A : Type 0} (limit : ℕ) (inner : Format A) (laws : IsFormat inner) (all : AllEnd inner.read inner.delimited_at) where
   ended : (x : A) (rest : List ℕ) (y : A) → end_padding_below limit x rest ≡ Ok y → (length rest < limit) × (rest ≡ rising 1 (length rest)) × (x ≡ y)

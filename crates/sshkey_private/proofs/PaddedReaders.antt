@@ -9,8 +9,8 @@ use Rattle.sshkey_base.specs.Causes.{Cause, NoMemory, Faulty}
 use Rattle.sshkey_base.specs.Source.{Source, IsSound, announced_len}
 use Rattle.sshkey_base.specs.Reading.{Reads, IsRefused}
 use Rattle.sshkey_base.specs.Stops.{RanOut}
-use Rattle.sshkey_ciphers.specs.Paddings.{end_padding_below, padding_end}
-use Rattle.sshkey_private.specs.Padded.{padded_below, NeedsPadded}
+use Rattle.sshkey_ciphers.specs.Formats.{end_padding_below, padding_end}
+use Rattle.sshkey_private.specs.PrivateParts.{padded_below, NeedsPadded}
 
 abbrev no_rest : {A : Type 0} → A → Result (A × List ℕ) Fault
 no_rest x = Ok (x, [])

@@ -8,11 +8,9 @@ use Rattle.sshkey_model.specs.Reading.{Fault, Length, TrailingKeyData, ◌>>=◌
 use Rattle.sshkey_model.proofs.CombinedReaders.{bind_ok, met, ok_is}
 use Rattle.sshkey_model.specs.Formats.{IsFormat}
 use Rattle.sshkey_terms.proofs.Lawful.{called_chosen}
-use Rattle.sshkey_ciphers.specs.Ciphertexts.{sealed_format}
-use Rattle.sshkey_private.specs.Inner.{part_format}
-use Rattle.sshkey_private.specs.Openings.{Opening, opening_at}
-use Rattle.sshkey_private.specs.PrivateKeyFormats.{key_of_part, unencrypted_below, sealed_with, encrypted_format, content_term, content_format, file_format, last_of, last_encrypted_at, last_content_at, steps_at}
-use Rattle.sshkey_private.specs.PrivateKeyGrammars.{not_encrypted, delimited_by, IsDecoder, SpellsFile, private_key_below, private_key_format, padded_key_format}
+use Rattle.sshkey_ciphers.specs.Formats.{sealed_format}
+use Rattle.sshkey_private.specs.PrivateParts.{part_format}
+use Rattle.sshkey_private.specs.PrivateKeyFormats.{Opening, opening_at, key_of_part, unencrypted_below, sealed_with, encrypted_format, content_term, content_format, file_format, last_of, last_encrypted_at, last_content_at, steps_at, not_encrypted, delimited_by, IsDecoder, SpellsFile, private_key_below, private_key_format, padded_key_format}
 use Rattle.sshkey_private.proofs.Lawful.{file_grammar, file_lawful}
 
 unencrypted_last : (limit : ℕ) (public : Key) (b : List ℕ) → unencrypted_below limit public b ≡ (unencrypted_below limit public b >>= last_of)

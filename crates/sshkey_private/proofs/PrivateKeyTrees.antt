@@ -19,19 +19,12 @@ use Rattle.sshkey_model.proofs.Grammars.{ends}
 use Rattle.sshkey_model.specs.Leaves.{number32_format}
 use Rattle.sshkey_base.proofs.Lawful.{number32_lawful}
 use Rattle.sshkey_model.proofs.Trees.{IsTree, Alike, alike, grouped, leaf_tree, open_tree, dependent_tree, then_tree, box_tree, kept_tree, tested_tree, made_tree}
-use Rattle.sshkey_ciphers.proofs.Paddings.{rising_length}
-use Rattle.sshkey_ciphers.specs.Ciphertexts.{AreBlocks, blocks_format}
-use Rattle.sshkey_ciphers.specs.KdfFormats.{cipher_format}
-use Rattle.sshkey_ciphers.proofs.KdfTrees.{kdf_tree}
-use Rattle.sshkey_ciphers.proofs.Lawful.{blocks_lawful, cipher_lawful}
-use Rattle.sshkey_private.specs.Halves.{is_half}
-use Rattle.sshkey_private.specs.Inner.{unencrypted, one_checkint, checkint_format, pair_format, inner_format}
-use Rattle.sshkey_private.specs.Openings.{Opening, magic_format, one_format, sealing_format, opening_with, opening_format}
-use Rattle.sshkey_private.specs.Padded.{SpellsPadded}
-use Rattle.sshkey_private.specs.PaddedKeys.{PaddedChoices, padded_content, padded_private_key, HasPadding, HasPlacesBelow}
-use Rattle.sshkey_private.specs.PrivateKeyFormats.{key_of_part, sealed_with, encrypted_format, content_term}
+use Rattle.sshkey_ciphers.proofs.Ciphertexts.{rising_length}
+use Rattle.sshkey_ciphers.specs.Formats.{AreBlocks, blocks_format, cipher_format}
+use Rattle.sshkey_ciphers.proofs.Lawful.{kdf_tree, blocks_lawful, cipher_lawful}
+use Rattle.sshkey_private.specs.PrivateParts.{is_half, unencrypted, one_checkint, checkint_format, pair_format, inner_format, SpellsPadded}
+use Rattle.sshkey_private.specs.PrivateKeyFormats.{Opening, magic_format, one_format, sealing_format, opening_with, opening_format, PaddedChoices, padded_content, padded_private_key, HasPadding, HasPlacesBelow, key_of_part, sealed_with, encrypted_format, content_term, SpellsFile, SpellsPrivateKey, SpellsPaddedKey}
 use Rattle.sshkey_private.proofs.Lawful.{checkint_lawful, pair_lawful, magic_lawful, one_lawful, sealing_lawful, opening_lawful}
-use Rattle.sshkey_private.specs.PrivateKeyGrammars.{SpellsFile, SpellsPrivateKey, SpellsPaddedKey}
 
 -- ---- the checkint, and the same again
 

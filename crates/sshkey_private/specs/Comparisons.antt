@@ -5,7 +5,7 @@ use Rattle.sshkey_model.specs.KeyPairs.{KeyPair}
 use Rattle.sshkey_model.specs.Keys.{Key}
 use Rattle.sshkey_model.specs.Names.{Algorithm}
 use Rattle.sshkey_pairs.specs.Keypairs.{pair_fields}
-use Rattle.sshkey_public.specs.Comparisons.{IsOfKey, content_of}
+use Rattle.sshkey_public.specs.PublicKeys.{IsOfKey, content_of}
 use Rattle.sshkey_private.specs.declared.private_key.PrivateKey.{PrivateKey}
 use Rattle.sshkey_private.specs.PrivateKeys.{key_fields, data_of, outer_of}
 

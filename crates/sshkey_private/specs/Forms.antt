@@ -10,7 +10,7 @@ use Rattle.sshkey_public.specs.PublicKeys.{public_of}
 use Rattle.sshkey_ciphers.specs.declared.cipher.Cipher as cipher
 use Rattle.sshkey_ciphers.specs.declared.kdf.Kdf as kdf
 use Rattle.sshkey_ciphers.specs.Ciphers.{cipher_of, kdf_of}
-use Rattle.sshkey_ciphers.specs.Ciphertexts.{tag_bytes}
+use Rattle.sshkey_ciphers.specs.Formats.{tag_bytes}
 
 -- the fields as those of an encrypted key
 abbrev pub sealed_of : cipher.Cipher → kdf.Kdf → PublicKey → KeypairData → Option (List ℕ) → EncryptedKey

@@ -1,12 +1,6 @@
-pub mod Halves
-pub mod Padded
-pub mod Inner
-pub mod Openings
+pub mod PrivateParts
 pub mod PrivateKeyFormats
-pub mod PrivateKeyGrammars
-pub mod PaddedKeys
 pub mod Forms
 pub mod PrivateKeys
-pub mod Written
 pub mod Comparisons
 pub mod PrivateKeyExamples

@@ -7,9 +7,8 @@ use Rattle.sshkey_model.specs.KeyDerivation.{Aes256Ctr, Bcrypt}
 use Rattle.sshkey_model.specs.PrivateKeys.{PrivateKey, Encrypted, normal_private_key}
 use Rattle.sshkey_model.specs.PrivateExamples.{short_string, example_public, example_key_bytes, pair_bytes, example_key, part_bytes, one, example_bytes}
 use Rattle.sshkey_ciphers.specs.CipherExamples.{no_kdf_bytes}
-use Rattle.sshkey_private.specs.Inner.{inner_at}
-use Rattle.sshkey_private.specs.Padded.{padded_below}
-use Rattle.sshkey_private.specs.PrivateKeyGrammars.{private_value_at}
+use Rattle.sshkey_private.specs.PrivateParts.{inner_at, padded_below}
+use Rattle.sshkey_private.specs.PrivateKeyFormats.{private_value_at}
 
 abbrev pub ReadKey : Type 0
 ReadKey = (whole private_value_at example_bytes ≡ Ok example_key) × (whole private_value_at (example_bytes ++ 0 ∷ []) ≡ Err (TrailingData 1))

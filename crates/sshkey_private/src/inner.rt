@@ -10,17 +10,14 @@ ghost use Rattle.sshkey_base.specs.Reading.{Gives};
 ghost use Rattle.sshkey_model.specs.Reading.{to_end};
 ghost use Rattle.sshkey_base.specs.Source.{Later};
 ghost use Rattle.sshkey_base.specs.Stops.{StopsPast};
-ghost use Rattle.sshkey_pairs.specs.Keypairs.{pair_of};
+ghost use Rattle.sshkey_pairs.specs.Keypairs.{pair_of, opaque_pair_of};
 ghost use Rattle.sshkey_keys.specs.Keys.{key_of};
 ghost use Rattle.sshkey_kinds.specs.EcdsaPublicKey.{ecdsa_key_of};
 ghost use Rattle.sshkey_kinds.specs.Kinds.{opaque_of};
-ghost use Rattle.sshkey_pairs.specs.OpaquePairs.{opaque_pair_of};
 ghost use Rattle.sshkey_model.specs.KeyPairs.{public_half, keypair_format};
 ghost use Rattle.sshkey_model.specs.PrivateKeys.{key_eq};
 ghost use Rattle.sshkey_pair_kinds.specs.Pairs.{ecdsa_pair_of};
-ghost use Rattle.sshkey_private.specs.Halves.{is_half};
-ghost use Rattle.sshkey_private.specs.Inner.{inner_of, inner_at, inner_format, part_format, checkint_at, checkint_format, one_checkint, half_of, pair_format, pair_with_at};
-ghost use Rattle.sshkey_private.specs.Padded.{padded_below, NeedsPadded};
+ghost use Rattle.sshkey_private.specs.PrivateParts.{is_half, inner_of, inner_at, inner_format, part_format, checkint_at, checkint_format, one_checkint, half_of, pair_format, pair_with_at, padded_below, NeedsPadded};
 
 use crate::part::Inner;
 use sshkey_base::{Decode, Error, Reader, Result, Text, encoding};
@@ -81,7 +78,7 @@ fn padded_inner_from<R: Reader>(
 }
 
 /// The checkint twice, the pair of that public key, and the comment.
-#[tactic(auto, using(sshkey_base::proofs::Steps::steps), unfolding(crate::specs::Inner::inner_at))]
+#[tactic(auto, using(sshkey_base::proofs::Steps::steps), unfolding(crate::specs::PrivateParts::inner_at))]
 fn inner_from<R: Reader>(alloc: Global, reader: &mut R, public: &KeyData) -> Result<Inner>
     ensures gives { Gives inner_of cause (inner_at (key_of public.now))
         (R.source reader.old) result (R.source reader.new) }
@@ -101,7 +98,7 @@ fn inner_from<R: Reader>(alloc: Global, reader: &mut R, public: &KeyData) -> Res
 }
 
 /// A checkint, and the same again.
-#[tactic(auto, using(sshkey_base::proofs::Steps::steps, sshkey_base::proofs::Judging::judged, sshkey_base::proofs::Judging::judged_asks), unfolding(crate::specs::Inner::checkint_at))]
+#[tactic(auto, using(sshkey_base::proofs::Steps::steps, sshkey_base::proofs::Judging::judged, sshkey_base::proofs::Judging::judged_asks), unfolding(crate::specs::PrivateParts::checkint_at))]
 fn checkint_from<R: Reader>(alloc: Global, reader: &mut R) -> Result<u32>
     ensures gives { Gives (λ n. n) cause checkint_at
         (R.source reader.old) result (R.source reader.new) }
@@ -124,7 +121,7 @@ fn check_again(checkint: u32, again: u32) -> Result<u32>
 }
 
 /// A pair whose public half is that key.
-#[tactic(auto, using(sshkey_base::proofs::Steps::steps, sshkey_base::proofs::Stopping::checked_stopped, sshkey_base::proofs::Judging::judged, sshkey_base::proofs::Judging::judged_asks), unfolding(crate::specs::Inner::pair_with_at))]
+#[tactic(auto, using(sshkey_base::proofs::Steps::steps, sshkey_base::proofs::Stopping::checked_stopped, sshkey_base::proofs::Judging::judged, sshkey_base::proofs::Judging::judged_asks), unfolding(crate::specs::PrivateParts::pair_with_at))]
 fn pair_from<R: Reader>(alloc: Global, reader: &mut R, public: &KeyData) -> Result<KeypairData>
     ensures gives { Gives pair_of cause (pair_with_at (key_of public.now))
         (R.source reader.old) result (R.source reader.new) }

@@ -8,9 +8,7 @@ ghost use Rattle.sshkey_model.specs.Parts.{IsPrefixFree};
 ghost use Rattle.sshkey_model.specs.PrivateKeys.{PrivateKey as ThePrivateKey, HasPrivateKeyPlaces, IsPrivateKey, normal_private_key, private_key};
 ghost use Rattle.sshkey_model.specs.Reading.{whole};
 ghost use Rattle.sshkey_private.specs.Comparisons.{IsBesideKey, seen};
-ghost use Rattle.sshkey_private.specs.PaddedKeys.{HasPaddedPlaces, padded_private_key};
-ghost use Rattle.sshkey_private.specs.PrivateKeyFormats.{file_format};
-ghost use Rattle.sshkey_private.specs.PrivateKeyGrammars.{IsDecoder, SpellsPaddedKey, SpellsPrivateKey, padded_value_at, private_value_at};
+ghost use Rattle.sshkey_private.specs.PrivateKeyFormats.{HasPaddedPlaces, padded_private_key, file_format, IsDecoder, SpellsPaddedKey, SpellsPrivateKey, padded_value_at, private_value_at};
 
 use crate::private_key::PrivateKey;
 use sshkey_ciphers::laws::{compared_ciphers, equal_kdfs};
@@ -69,13 +67,13 @@ pub fn read_back_private_key()
 {}
 
 /// No private key begins another.
-#[tactic(auto, using(crate::proofs::KeyPrefixes::plain_prefix))]
+#[tactic(auto, using(crate::proofs::PrivateKeyLaws::plain_prefix))]
 pub fn prefix_private_key()
     ensures { IsPrefixFree (IsSpelled IsPrivateKey HasPrivateKeyPlaces) (spelled private_key) }
 {}
 
 /// No private key begins another, however long their padding is.
-#[tactic(auto, using(crate::proofs::KeyPrefixes::padded_prefix))]
+#[tactic(auto, using(crate::proofs::PrivateKeyLaws::padded_prefix))]
 pub fn prefix_padded_private_key()
     ensures { IsPrefixFree (IsSpelled IsPrivateKey HasPaddedPlaces) (spelled padded_private_key) }
 {}

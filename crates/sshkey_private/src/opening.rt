@@ -9,7 +9,7 @@ ghost use Rattle.sshkey_base.specs.Source.{Later};
 ghost use Rattle.sshkey_base.specs.Stops.{StopsBy};
 ghost use Rattle.sshkey_model.specs.PrivateKeys.{private_key_magic};
 ghost use Rattle.sshkey_model.specs.Reading.{literal_from};
-ghost use Rattle.sshkey_private.specs.Openings.{opening_of, magic_of, one_of, one_key, magic_format, one_format, opening_parts, opening_at};
+ghost use Rattle.sshkey_private.specs.PrivateKeyFormats.{opening_of, magic_of, one_of, one_key, magic_format, one_format, opening_parts, opening_at};
 
 use sshkey_base::{Decode, Error, Reader, Result, array_from, encoding};
 use sshkey_ciphers::{Cipher, Kdf};

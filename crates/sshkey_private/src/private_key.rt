@@ -58,8 +58,7 @@ impl Decode for PrivateKey {
     ghost use Rattle.sshkey_base.specs.Source.{Later};
     ghost use Rattle.sshkey_model.specs.PrivateKeys as model;
     ghost use Rattle.sshkey_model.specs.PrivateKeys.{IsPrivateKey};
-    ghost use Rattle.sshkey_private.specs.PrivateKeyFormats.{NeedsPrivateKey};
-    ghost use Rattle.sshkey_private.specs.PrivateKeyGrammars.{private_key_format, private_value_at};
+    ghost use Rattle.sshkey_private.specs.PrivateKeyFormats.{NeedsPrivateKey, private_key_format, private_value_at};
     ghost use Rattle.sshkey_private.specs.PrivateKeys.{private_of, HasWrittenComment};
 
     type Error = Error;
@@ -141,8 +140,7 @@ impl PrivateKey {
     ghost use Rattle.sshkey_model.specs.Reading.{whole};
     ghost use Rattle.sshkey_ciphers.specs.Ciphers.{cipher_of, kdf_of};
     ghost use Rattle.sshkey_private.specs.Comparisons.{seen};
-    ghost use Rattle.sshkey_private.specs.PrivateKeyGrammars.{SpellsPrivateKey, SpellsPaddedKey, private_value_at, padded_value_at};
-    ghost use Rattle.sshkey_private.specs.PrivateKeyFormats.{NeedsPrivateKey};
+    ghost use Rattle.sshkey_private.specs.PrivateKeyFormats.{SpellsPrivateKey, SpellsPaddedKey, private_value_at, padded_value_at, NeedsPrivateKey};
     ghost use Rattle.sshkey_private.specs.PrivateKeys.{private_of, is_encrypted, data_of, outer_of, with_comment, HasWrittenComment, GivesNew};
     ghost use Rattle.sshkey_public.specs.PublicKeys.{public_of, comment_of, data_of as key_data_of};
 

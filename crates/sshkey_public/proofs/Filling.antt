@@ -13,7 +13,7 @@ use Rattle.sshkey_model.specs.Lines.{space, after_space, written}
 use Rattle.sshkey_model.specs.Parts.{Parts, flat, BoxesFit}
 use Rattle.sshkey_base.specs.Sink.{Sink, Written, NotWritten, after}
 use Rattle.sshkey_base.specs.declared.encoding.Error.{Error}
-use Rattle.sshkey_public.specs.Filling.{filled, Added, BeginsWith, line_size, spaced}
+use Rattle.sshkey_public.specs.WrittenLines.{filled, Added, BeginsWith, line_size, spaced}
 use Rattle.sshkey_base64.proofs.GoodBytes.{length_word}
 
 -- ---- an encoding call for which there is room

@@ -1,10 +1,5 @@
-pub mod Cuts
-pub mod LineNeeds
-pub mod LineFaults
 pub mod ReadLines
 pub mod Filling
 pub mod LentSlices
-pub mod OneLines
 pub mod WrittenLines
 pub mod Verified
-pub mod KeyBlobs

@@ -13,7 +13,7 @@ use Rattle.sshkey_keys.specs.Signatures.{signature_of}
 use Rattle.sshkey_keys.specs.Verdicts.{SignatureRefusal, NotAccepted, judged, verdict, Says, Verifies}
 use Rattle.sshkey_model.specs.Signatures.{Signature}
 use Rattle.sshkey_base.specs.Acceptance.{AcceptsExactly}
-use Rattle.sshkey_public.specs.Judging.{JudgesSigned}
+use Rattle.sshkey_public.specs.PublicKeys.{JudgesSigned}
 use Rattle.sshkey_sshsig.specs.SshSignatures.{ssh_signature_of, signer_of, given_of}
 use Rattle.sshkey_sshsig.specs.declared.sshsig.SshSig.{SshSig}
 

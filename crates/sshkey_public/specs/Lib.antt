@@ -1,12 +1,5 @@
 pub mod Inputs
 pub mod Words
-pub mod Blobs
 pub mod Lines
-pub mod LineNeeds
-pub mod LineFaults
-pub mod OneLine
-pub mod Filling
-pub mod WritingLines
+pub mod WrittenLines
 pub mod PublicKeys
-pub mod Judging
-pub mod Comparisons

@@ -1,7 +1,7 @@
 //! Laws of public keys: each stands for all values, and makes no call.
 
 ghost use Rattle.sshkey_base.specs.Comparisons.{EqualMeanSame, IsEqualityAmong};
-ghost use Rattle.sshkey_public.specs.Comparisons.{IsOfKey, IsOrderOfPublicKeys, content_of};
+ghost use Rattle.sshkey_public.specs.PublicKeys.{IsOfKey, IsOrderOfPublicKeys, content_of};
 
 use crate::public_key::PublicKey;
 use sshkey_keys::laws::compared_keys;

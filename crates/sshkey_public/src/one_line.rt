@@ -2,7 +2,7 @@
 
 ghost use Rattle.std.specs.Prelude.{◌≡◌, ◌⊎◌, ◌↔◌, ℕ, List, IsTrue};
 ghost use Rattle.sshkey_model.specs.Lines.{written};
-ghost use Rattle.sshkey_public.specs.OneLine.{IsOneLine, line_feed, carriage_return};
+ghost use Rattle.sshkey_public.specs.WrittenLines.{IsOneLine, line_feed, carriage_return};
 
 fn is_line_end(byte: u8) -> bool
     ensures { IsTrue result ↔ ((byte ≡ line_feed) ⊎ (byte ≡ carriage_return)) }

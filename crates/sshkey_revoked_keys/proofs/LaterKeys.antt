@@ -21,10 +21,10 @@ use Rattle.sshkey_model.specs.Parts.{flat}
 use Rattle.sshkey_model.specs.Texts.{string}
 use Rattle.sshkey_matching.proofs.PatternTests.{decides_all}
 use Rattle.sshkey_public.specs.Lines.{IsWordOf}
-use Rattle.sshkey_entries.proofs.KeyTexts.{other_name_text, other_word_text}
+use Rattle.sshkey_entries.proofs.KeyFields.{other_name_text, other_word_text}
 use Rattle.sshkey_entries.proofs.OtherKeys.{no_key_begins}
 use Rattle.sshkey_entries.specs.OtherKeys.{IsOtherName, SpellsName, is_name_character}
-use Rattle.sshkey_revoked_keys.specs.LaterKeys.{IsLaterKey, later_blob, later_front, later_name, later_size}
+use Rattle.sshkey_revoked_keys.specs.RevokedKeys.{IsLaterKey, later_blob, later_front, later_name, later_size}
 
 -- ---- its name
 

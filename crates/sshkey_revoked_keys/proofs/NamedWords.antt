@@ -9,11 +9,10 @@ use Rattle.sshkey_base.specs.Answers.{Judges}
 use Rattle.sshkey_base.specs.Causes.{cause}
 use Rattle.sshkey_base.specs.declared.error.Error.{Error}
 use Rattle.sshkey_base.specs.declared.error.Error.TheVariants.{FormatEncoding, Memory}
-use Rattle.sshkey_cert.proofs.CertificateReaders.{certificates_stand}
+use Rattle.sshkey_cert.proofs.Certificates.{certificates_stand}
 use Rattle.sshkey_model.specs.Formats.{Format}
-use Rattle.sshkey_entries.proofs.KeyTexts.{key_name_text, word_text}
-use Rattle.sshkey_entries.specs.Readings.{IsTheOne}
-use Rattle.sshkey_entries.specs.Answers.{AsksEntry, ReadsEntry, RefusesFor}
+use Rattle.sshkey_entries.proofs.KeyFields.{key_name_text, word_text}
+use Rattle.sshkey_entries.specs.Answers.{IsTheOne, AsksEntry, ReadsEntry, RefusesFor}
 use Rattle.sshkey_model.proofs.Base64Words.{one_blob, some_word}
 use Rattle.sshkey_model.proofs.Blobs.{key_blobs}
 use Rattle.sshkey_model.proofs.CombinedReaders.{bytes_fit}
@@ -25,7 +24,7 @@ use Rattle.sshkey_model.specs.Names.{Algorithm}
 use Rattle.sshkey_model.specs.Reading.{Fault}
 use Rattle.sshkey_public.specs.Lines.{IsWordOf}
 use Rattle.sshkey_revoked_keys.proofs.LaterKeys.{later_texts, no_own_key, one_later, some_later}
-use Rattle.sshkey_revoked_keys.specs.NamedWords.{HasNamedFault, HasNameFault, HasReadFault, IsNamedWord, IsReadWord, NeedsKey, SaysKey}
+use Rattle.sshkey_revoked_keys.specs.RevokedKeys.{HasNamedFault, HasNameFault, HasReadFault, IsNamedWord, IsReadWord, NeedsKey, SaysKey}
 
 pub one_value : {V : Type 0} (Spells : V → List ℕ → Type 0) → IsBlob Spells → (word : List ℕ) (v w : V) → IsWordOf Spells word v → IsWordOf Spells word w → v ≡ w
 one_value Spells blobs word v w a b =

@@ -1,17 +1,57 @@
--- What a line is read as.
-use Rattle.std.proofs.Common.{◌≡◌, ℕ, ◌<◌, List, [], ◌∷◌, length, Bool, Result, Ok, Err, Vec, inl, inr, sym, ap, subst, refl, ◌∙◌, arith}
+-- Where lines end: at a line feed.
+use Rattle.std.proofs.Common.{◌≡◌, ℕ, ◌<◌, ◌+◌, List, [], ◌∷◌, ◌++◌, length, take, drop, map, filter, position, Bool, true, ◌==◌, cond, Some, None, sym, ap, ◌∙◌, refl, arith, eqb-true, length-append, Result, Ok, Err, Vec, inl, inr, subst, ◌⊎◌, zero, suc, slice_index_or, false, ◌||◌, Global, bytes_eq}
+use Rattle.std.specs.List.{slice_split, Any}
+use Rattle.std.proofs.lemmas.List.Splits.{slice_split_at, slice_split_none}
+use Rattle.sshkey_entries.specs.Entries.{is_line_end}
+use Rattle.sshkey_entries.specs.Fields.{is_filled, without_blanks, without_front, CutsField, CutsWord}
+use Rattle.sshkey_matching.proofs.PatternLists.{none_there}
+use Rattle.sshkey_entries.proofs.ByteLines.{at_end}
+use Rattle.sshkey_revoked_keys.specs.RevokedKeys.{is_line_feed, revoked_lines, HasNamedFault, NeedsKey, SaysKey, BeginsWithWord, HasLineFault, NeedsEntry, RevokesKey, is_certified_name, has_key}
 use Rattle.std.specs.Str.{IsUtf8}
 use Rattle.sshkey_base.specs.declared.encoding.Error.TheVariants.{CharacterEncoding, Length}
 use Rattle.sshkey_base.specs.declared.error.Error.{Error}
 use Rattle.sshkey_base.specs.declared.error.Error.TheVariants.{Encoding}
-use Rattle.sshkey_entries.specs.Answers.{AsksEntry, ReadsEntry, RefusesFor}
-use Rattle.sshkey_entries.specs.Cuts.{CutsField}
-use Rattle.sshkey_entries.specs.Fields.{CutsWord, without_blanks}
-use Rattle.sshkey_entries.proofs.FieldKeys.{fields_are}
+use Rattle.sshkey_entries.specs.Answers.{AsksEntry, ReadsEntry, RefusesFor, AreEntries}
+use Rattle.sshkey_entries.proofs.KeyFields.{fields_are}
 use Rattle.sshkey_entries.proofs.Fields.{same_cut, same_field}
 use Rattle.sshkey_revoked_keys.proofs.NamedWords.{no_key, one_said, said_texts}
-use Rattle.sshkey_revoked_keys.specs.NamedWords.{HasNamedFault, NeedsKey, SaysKey}
-use Rattle.sshkey_revoked_keys.specs.RevokedLines.{BeginsWithWord, HasLineFault, NeedsEntry, RevokesKey, is_certified_name}
+use Rattle.std.proofs.lemmas.Slice.Eq.{bytes_eq-Decides}
+use Rattle.std.proofs.Math.Bool.{or-true}
+
+step : (text filled line : List ℕ) (more : List (List ℕ)) → slice_split is_line_feed text ≡ line ∷ more → filled ≡ without_blanks line → revoked_lines text ≡ cond (is_filled filled) (filled ∷ filter is_filled (map without_blanks more)) (filter is_filled (map without_blanks more))
+unfolding revoked_lines
+step text filled line more e is =
+    ap (λ (all : List (List ℕ)). filter is_filled (map without_blanks all)) e
+    ∙ (λ i. let left = filter is_filled (map without_blanks more) in cond (is_filled (sym is i)) (sym is i ∷ left) left)
+
+module _ (text filled line after : List ℕ) (n : ℕ) (at : Some n ≡ position is_line_end text) (front : line ≡ take n text) (rest : after ≡ drop (n + 1) text) where
+  whole : text ≡ take n text ++ (10 ∷ after)
+  whole = (at_end text n at).0 ∙ ap (λ (r : List ℕ). take n text ++ (10 ∷ r)) (sym rest)
+
+  pub line_first : filled ≡ without_blanks line → revoked_lines text ≡ cond (is_filled filled) (filled ∷ revoked_lines after) (revoked_lines after)
+  unfolding revoked_lines
+  line_first is = step text filled line (slice_split is_line_feed after) (ap (slice_split is_line_feed) whole ∙ slice_split_at is_line_feed (take n text) 10 after (at_end text n at).1 refl ∙ ap (λ (l : List ℕ). l ∷ slice_split is_line_feed after) (sym front)) is
+
+  pub less_left : length after < length text
+  less_left = omega (arith, ap length whole, length-append (take n text) (10 ∷ after))
+
+none_left : revoked_lines [] ≡ []
+unfolding revoked_lines without_front
+none_left = refl
+
+pub line_last : (text filled : List ℕ) → None ≡ position is_line_end text → filled ≡ without_blanks text → revoked_lines text ≡ cond (is_filled filled) (filled ∷ revoked_lines []) (revoked_lines [])
+line_last text filled none is =
+    step text filled text [] (slice_split_none is_line_feed text (none_there is_line_end text none)) is
+    ∙ (λ i. cond (is_filled filled) (filled ∷ sym none_left i) (sym none_left i))
+
+pub first_left : (text line rest : List ℕ) (filled : Bool) → revoked_lines text ≡ cond (is_filled line) (line ∷ revoked_lines rest) (revoked_lines rest) → filled ≡ is_filled line → filled ≡ true → revoked_lines text ≡ line ∷ revoked_lines rest
+first_left text line rest filled is judged e = is ∙ ap (λ (b : Bool). cond b (line ∷ revoked_lines rest) (revoked_lines rest)) (sym judged ∙ e)
+
+pub nothing_left : (rest : List ℕ) (empty : Bool) → empty ≡ (length rest == 0) → empty ≡ true → revoked_lines rest ≡ []
+nothing_left [] empty judged e = none_left
+nothing_left (c ∷ rest) empty judged e = let none : length (c ∷ rest) ≡ 0 = eqb-true _ 0 (sym judged ∙ e) in absurd (omega (arith, none))
+
+-- What a line is read as.
 
 pub begins : (line name after skipped word rest : List ℕ) → CutsField line name after → skipped ≡ without_blanks after → CutsWord skipped word rest → BeginsWithWord line name word
 begins line name after skipped word rest first skips second = record { rest = rest; fields = fields_are line name after skipped word rest first skips second }
@@ -100,3 +140,50 @@ module _ (line name word : List ℕ) (begin : BeginsWithWord line name word) whe
 -- A line revokes one key.
 pub one_key : (line a b : List ℕ) → RevokesKey line a → RevokesKey line b → a ≡ b
 one_key line a b r s = one_said (is_certified_name r.name) r.name r.word a b r.says (said_here line r.name r.word r.begins b s)
+
+-- The keys of lines, and the lines that revoke a key.
+
+module _ (key : List ℕ) where
+  abbrev Revokes : List ℕ → Type 0
+  Revokes line = RevokesKey line key
+
+  abbrev AreOf : List (List ℕ) → List (Vec ℕ Global) → Type 0
+  AreOf lines keys = AreEntries (λ (v : Vec ℕ Global). v.items) RevokesKey lines keys
+
+  after : (line : List ℕ) (lines : List (List ℕ)) → Any Revokes lines → Any Revokes (line ∷ lines)
+  after line lines a = (suc a.0, a.1, omega (arith, a.2), a.3, a.4)
+
+  at_place : (line : List ℕ) (lines : List (List ℕ)) (k : ℕ) (x : List ℕ) → k < length (line ∷ lines) → slice_index_or (line ∷ lines) k x ≡ x → Revokes x → Revokes line ⊎ Any Revokes lines
+  at_place line lines zero x l e r = inl (subst Revokes (sym e) r)
+  at_place line lines (suc k) x l e r = inr (k, x, omega (arith, l), e, r)
+
+  same : (a : List ℕ) (b : Bool) → bytes_eq a key ≡ b → (a ≡ key) ⊎ (b ≡ false)
+  same a true e = inl ((bytes_eq-Decides a key).0 e)
+  same a false e = inr refl
+
+  pub line_found : (lines : List (List ℕ)) (keys : List (Vec ℕ Global)) → AreOf lines keys → has_key keys key ≡ true → Any Revokes lines
+  line_found [] [] are has = absurd (cc has)
+  line_found [] (v ∷ keys) are has = absurd are
+  line_found (line ∷ lines) [] are has = absurd are
+  line_found (line ∷ lines) (v ∷ keys) are has = elim (same v.items (bytes_eq v.items key) refl) [
+    | inl is ↦ (0, line, omega arith, refl, subst (λ (k : List ℕ). RevokesKey line k) is are.0)
+    | inr other ↦ after line lines (line_found lines keys are.1 (subst (λ (b : Bool). (b || has_key keys key) ≡ true) other has))
+  ]
+
+  pub key_found : (lines : List (List ℕ)) (keys : List (Vec ℕ Global)) → AreOf lines keys → Any Revokes lines → has_key keys key ≡ true
+  key_found [] keys are a = absurd (omega (arith, a.2))
+  key_found (line ∷ lines) [] are a = absurd are
+  key_found (line ∷ lines) (v ∷ keys) are a = elim (at_place line lines a.0 a.1 a.2 a.3 a.4) [
+    | inl here ↦ subst (λ (b : Bool). (b || has_key keys key) ≡ true) (sym ((bytes_eq-Decides v.items key).1 (one_key line v.items key are.0 here))) refl
+    | inr more ↦ subst (λ (b : Bool). (bytes_eq v.items key || b) ≡ true) (sym (key_found lines keys are.1 more)) (or-true (bytes_eq v.items key))
+  ]
+
+pub either : (a b : Bool) → (a || b) ≡ true → (a ≡ true) ⊎ (b ≡ true)
+either true b e = inl refl
+either false b e = inr e
+
+pub left : (a b : Bool) → a ≡ true → (a || b) ≡ true
+left a b e = subst (λ (t : Bool). (t || b) ≡ true) (sym e) refl
+
+pub right : (a b : Bool) → b ≡ true → (a || b) ≡ true
+right a b e = subst (λ (t : Bool). (a || t) ≡ true) (sym e) (or-true a)

@@ -1,5 +1,2 @@
-pub mod LaterKeys
-pub mod NamedWords
-pub mod RevokedLines
 pub mod RevokedKeys
 pub mod LineExamples

@@ -7,10 +7,7 @@ use Rattle.sshkey_model.specs.Certificates.{Certificate}
 use Rattle.sshkey_model.specs.HexText.{hex}
 use Rattle.sshkey_model.specs.Keys.{Key, Ecdsa, Ed25519, Rsa}
 use Rattle.sshkey_model.specs.Names.{Nistp256}
-use Rattle.sshkey_revoked_keys.specs.LaterKeys.{IsLaterKey, later_blob, later_front}
-use Rattle.sshkey_revoked_keys.specs.NamedWords.{IsReadCertificate, IsReadKey}
-use Rattle.sshkey_revoked_keys.specs.RevokedKeys.{begins_krl}
-use Rattle.sshkey_revoked_keys.specs.RevokedLines.{is_certified_name, revoked_lines}
+use Rattle.sshkey_revoked_keys.specs.RevokedKeys.{IsLaterKey, later_blob, later_front, IsReadCertificate, IsReadKey, begins_krl, is_certified_name, revoked_lines}
 
 -- Blanks in front, empty lines and comments are passed over; a last line needs no end, and a carriage
 -- return stays with its line.

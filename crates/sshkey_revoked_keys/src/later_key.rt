@@ -5,8 +5,8 @@ ghost use Rattle.base64.specs.Engines.{standard};
 ghost use Rattle.base64.specs.GeneralPurpose.{IsBytes, encode_of};
 ghost use Rattle.std.specs.Prelude.{◌≡◌, ◌↔◌, List, ℕ, IfErr, IfOk, IsTrue, eqb, length};
 ghost use Rattle.sshkey_base.specs.declared.error.Error.TheVariants.{Memory};
-ghost use Rattle.sshkey_entries.specs.Readings.{IsTheOne};
-ghost use Rattle.sshkey_revoked_keys.specs.LaterKeys.{IsLaterKey, later_front, later_name};
+ghost use Rattle.sshkey_entries.specs.Answers.{IsTheOne};
+ghost use Rattle.sshkey_revoked_keys.specs.RevokedKeys.{IsLaterKey, later_front, later_name};
 
 use sshkey_base::{Reader, Result};
 use sshkey_base64::Base64Reader;

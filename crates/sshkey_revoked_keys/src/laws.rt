@@ -2,8 +2,7 @@
 
 ghost use Rattle.std.specs.Prelude.{◌≡◌, ◌↔◌, ◌⊎◌, ℕ, IsTrue, List};
 ghost use Rattle.sshkey_krl.specs.Revocation.{CertificateIdentity};
-ghost use Rattle.sshkey_revoked_keys.specs.RevokedKeys.{AreKeys, HasLineOf, revokes, revokes_key};
-ghost use Rattle.sshkey_revoked_keys.specs.RevokedLines.{RevokesKey};
+ghost use Rattle.sshkey_revoked_keys.specs.RevokedKeys.{AreKeys, HasLineOf, revokes, revokes_key, RevokesKey};
 ghost use Rattle.sshkey_revoked_keys.specs.declared.revoked_keys.RevokedKeys.{RevokedKeys};
 
 /// A line revokes one key at most.

@@ -5,14 +5,13 @@ ghost use Rattle.std.specs.Str.{IsUtf8};
 ghost use Rattle.sshkey_base.specs.declared.encoding.Error.TheVariants.{CharacterEncoding};
 ghost use Rattle.sshkey_base.specs.declared.error.Error.TheVariants as wide;
 ghost use Rattle.sshkey_base.specs.declared.error.Error.TheVariants.{Memory};
-ghost use Rattle.sshkey_cert.specs.CertificateValues.{certificate_of};
+ghost use Rattle.sshkey_cert.specs.Certificates.{certificate_of};
 ghost use Rattle.sshkey_entries.specs.Answers.{AsksEntries, AsksEntry, ReadsEntries, ReadsEntry, RefusesFor};
 ghost use Rattle.sshkey_entries.specs.Fields.{is_filled};
 ghost use Rattle.sshkey_keys.specs.Keys.{key_of};
 ghost use Rattle.sshkey_model.specs.Keys.{normal_key};
 ghost use Rattle.sshkey_model.specs.Parts.{flat};
-ghost use Rattle.sshkey_revoked_keys.specs.NamedWords.{HasNamedFault, IsReadCertificate, IsReadKey, NeedsKey, SaysKey};
-ghost use Rattle.sshkey_revoked_keys.specs.RevokedLines.{HasLineFault, NeedsEntry, NeedsLine, RevokesKey, is_certified_name, revoked_lines};
+ghost use Rattle.sshkey_revoked_keys.specs.RevokedKeys.{HasNamedFault, IsReadCertificate, IsReadKey, NeedsKey, SaysKey, HasLineFault, NeedsEntry, NeedsLine, RevokesKey, is_certified_name, revoked_lines};
 
 use crate::later_key::read_later_key;
 use crate::named_word::read_named;

@@ -1,9 +1,9 @@
 //! Values that a word spells, under their names.
 
 ghost use Rattle.std.specs.Prelude.{◌≡◌, ◌↔◌, ◌≤◌, length, IsTrue};
-ghost use Rattle.sshkey_public.specs.LineNeeds.{AsksWord};
+ghost use Rattle.sshkey_public.specs.Lines.{AsksWord};
 ghost use Rattle.sshkey_entries.specs.Answers.{ReadsEntry, RefusesFor};
-ghost use Rattle.sshkey_revoked_keys.specs.NamedWords.{HasNameFault, IsNamedWord};
+ghost use Rattle.sshkey_revoked_keys.specs.RevokedKeys.{HasNameFault, IsNamedWord};
 
 use sshkey_base::{Error, Result, SliceWriter};
 use sshkey_public::{Blob, read_word};

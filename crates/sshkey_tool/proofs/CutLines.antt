@@ -4,8 +4,7 @@ use Rattle.std.specs.List.{AllZip}
 use Rattle.std.proofs.lemmas.Bool.{cases_lt}
 use Rattle.std.proofs.lemmas.List.{take-append-le}
 use Rattle.std.proofs.Math.Seq.{take-append-add}
-use Rattle.sshkey_tool.specs.EntryLines.{ShowsEntry}
-use Rattle.sshkey_tool.specs.Lines.{in_lines, line_end}
+use Rattle.sshkey_tool.specs.Lines.{ShowsEntry, in_lines, line_end}
 
 abbrev pub texts_of : List (List ℕ × Bool) → List ℕ
 texts_of lines = in_lines (map (λ l. l.0) lines)

@@ -1,4 +1,3 @@
-pub mod Writing
 pub mod Lines
 pub mod CutLines
 pub mod ShownEntries

@@ -1,12 +1,30 @@
--- Lines, one after the other.
-use Rattle.std.proofs.Common.{◌≡◌, ◌<◌, ◌+◌, ℕ, List, [], ◌∷◌, ◌++◌, length, take, get_or, map, refl, sym, ap, ◌∙◌}
-use Rattle.std.proofs.lemmas.List.{append_assoc, map-append, take_more}
+-- What was written, piece by piece.
+use Rattle.std.proofs.Common.{◌≡◌, ◌≤◌, ◌+◌, ◌-◌, ℕ, List, ◌++◌, length, take, drop, Option, None, Some, sym, ap, ◌∙◌, arith, ◌<◌, [], ◌∷◌, get_or, map, refl}
+use Rattle.std.proofs.lemmas.List.{append_assoc, take_all, length-drop, length-take, map-append, take_more}
+use Rattle.std.proofs.Math.Seq.{take-add}
+use Rattle.std.specs.Io.KnownBytes.{Appends}
 use Rattle.std.specs.Prelude.{String, string_bytes, codes, decimal}
 use Rattle.sshkey_model.specs.Certificates.{Certificate}
 use Rattle.sshkey_model.specs.Lines.{key_line, key_name}
 use Rattle.sshkey_model.specs.Options.{CertificateOption}
-use Rattle.sshkey_cert_values.specs.OptionMaps.{option_of}
+use Rattle.sshkey_cert_values.specs.CertificateFields.{option_of}
 use Rattle.sshkey_tool.specs.Lines.{in_lines, line_end, principal_line, principal_lines, option_line, type_word, end_text, subject_lines, window_lines, field_lines, certificate_lines}
+
+all_left : (text : List ℕ) (n : ℕ) → take (length text - n) (drop n text) ≡ drop n text
+all_left text n = take_all (length text - n) (drop n text) (omega (arith, length-drop n text))
+
+pub fewer : (text : List ℕ) (n k : ℕ) → n ≤ length text → k ≤ length (take (length text - n) (drop n text)) → n + k ≤ length text
+fewer text n k within bound = omega (arith, length-take (length text - n) (drop n text), length-drop n text)
+
+pub more : (old mid new : Option (List ℕ)) (text : List ℕ) (n k : ℕ) → Appends old mid (take n text) → Appends mid new (take k (take (length text - n) (drop n text))) → Appends old new (take (n + k) text)
+more None mid new text n k a b = tt
+more (Some xs) None new text n k a b = absurd a
+more (Some xs) (Some ys) None text n k a b = absurd b
+more (Some xs) (Some ys) (Some zs) text n k a b =
+    b ∙ ap (λ (l : List ℕ). ys ++ take k l) (all_left text n) ∙ ap (λ (l : List ℕ). l ++ take k (drop n text)) a
+    ∙ append_assoc xs (take n text) (take k (drop n text)) ∙ ap (λ (l : List ℕ). xs ++ l) (sym (take-add n k text))
+
+-- Lines, one after the other.
 
 pub lines_append : (xs ys : List (List ℕ)) → in_lines (xs ++ ys) ≡ in_lines xs ++ in_lines ys
 lines_append [] ys = refl

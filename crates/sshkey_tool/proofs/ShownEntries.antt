@@ -16,11 +16,9 @@ use Rattle.sshkey_base.specs.declared.error.Error.{Error}
 use Rattle.sshkey_entries.specs.AuthorizedKeys.{AuthorizedKey, IsAuthorizedKey, authorized_text}
 use Rattle.sshkey_entries.specs.Entries.{entries}
 use Rattle.sshkey_entries.specs.KnownHosts.{KnownHost, IsKnownHost, known_text}
-use Rattle.sshkey_entries.specs.MadeTexts.{MakesEntry}
-use Rattle.sshkey_entries.proofs.AnswerLists.{answered_more}
-use Rattle.sshkey_tool.specs.EntryLines.{ShowsEntries, ShowsEntry, ShowsFirst}
-use Rattle.sshkey_tool.specs.Faults.{IsBegun, WritesWhole, WritesWithStatus}
-use Rattle.sshkey_tool.specs.Lines.{in_lines, line_end, refusal_line}
+use Rattle.sshkey_entries.specs.Answers.{MakesEntry}
+use Rattle.sshkey_entries.proofs.TextLines.{answered_more}
+use Rattle.sshkey_tool.specs.Lines.{ShowsEntries, ShowsEntry, ShowsFirst, IsBegun, WritesWhole, WritesWithStatus, in_lines, line_end, refusal_line}
 use Rattle.sshkey_tool.specs.Outcomes.{PushesEntry, RefusesAfter, WritesEntry, WritesEntryOf, WritesEntries, WritesAllEntries, entries_status}
 use Rattle.sshkey_tool.specs.Table.{AreFirstLines, IsRefusalLine, ShowsFile, ShowsFileEntry, ShowsFileFirst}
 use Rattle.sshkey_tool.specs.declared.command.EntryFile.{EntryFile}

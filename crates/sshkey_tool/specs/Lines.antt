@@ -1,11 +1,30 @@
--- Lines, and what is shown of a certificate, line by line.
-use Rattle.std.specs.Prelude.{◌≡◌, ◌≢◌, ◌⊎◌, ◌<◌, ◌==◌, ℕ, length, get_or, List, [], ◌∷◌, ◌++◌, map, codes, Option, None, Some, if◌then◌else◌, Result, IfOk, String, string_bytes}
+-- What a line leaves in an output that may fail.
+use Rattle.std.specs.Prelude.{◌≡◌, ◌⊎◌, ℕ, ◌<◌, List, length, take, Option, Bool, true, false, ◌≢◌, ◌==◌, get_or, [], ◌∷◌, ◌++◌, map, codes, None, Some, if◌then◌else◌, Result, IfOk, String, string_bytes}
+use Rattle.std.specs.Io.KnownBytes.{Appends}
 use Rattle.std.specs.Fmt.{decimal}
 use denote.Ref.{Bor}
 use Rattle.sshkey_model.specs.Certificates.{Certificate, CertificateType, User, Host, forever}
 use Rattle.sshkey_model.specs.Lines.{key_line, key_name}
 use Rattle.sshkey_model.specs.Options.{CertificateOption}
 use Rattle.sshkey_model.specs.Principals.{Allows}
+use Rattle.std.specs.List.{AllZip, list_any}
+use Rattle.sshkey_entries.specs.Entries.{entries, IsNoEntry}
+
+-- some of its beginning, and not all of it
+abbrev pub IsBegun : Option (List ℕ) → Option (List ℕ) → List ℕ → Type 0
+IsBegun old new line = (count : ℕ) × (count < length line) × Appends old new (take count line)
+
+-- whether the line was written whole
+abbrev pub WritesWhole : Option (List ℕ) → Option (List ℕ) → List ℕ → Bool → Type 0
+WritesWhole old new line true = Appends old new line
+WritesWhole old new line false = IsBegun old new line
+
+-- A line is written whole with its status, or only a beginning of it is written and the status is
+-- 1.
+abbrev pub WritesWithStatus : Option (List ℕ) → Option (List ℕ) → List ℕ → ℕ → ℕ → Type 0
+WritesWithStatus old new line wanted status = (Appends old new line × (status ≡ wanted)) ⊎ (IsBegun old new line × (status ≡ 1))
+
+-- Lines, and what is shown of a certificate, line by line.
 
 abbrev pub line_end : List ℕ
 line_end = 10 ∷ []
@@ -78,3 +97,24 @@ abbrev pub IsCertificateText : Option (Bor (List ℕ)) → Certificate → List 
 IsCertificateText None c text = text ≡ in_lines (certificate_lines c)
 IsCertificateText (Some wanted) c text =
     (line : List ℕ) × SaysAllowed c wanted.now line × (text ≡ in_lines (certificate_lines c) ++ (line ++ line_end))
+
+-- What is shown of the entries of a file, line by line.
+
+-- The text of the entry; or that it is refused, and a reason of one line. The second half says
+-- whether it is.
+abbrev pub ShowsEntry : {Y : Type 0} → (List ℕ → Y → Type 0) → (Y → List ℕ) → List ℕ → List ℕ × Bool → Type 0
+ShowsEntry {Y} IsEntry text_of entry (line, false) = (y : Y) × IsEntry entry y × (line ≡ text_of y)
+ShowsEntry IsEntry text_of entry (line, true) = IsNoEntry IsEntry entry × ((why : List ℕ) × HasNoLineEnd why × (line ≡ refusal_line why))
+
+-- A line for each of the entries, in order, and whether one of them is refused.
+pub record ShowsEntries {Y : Type 0} (IsEntry : List ℕ → Y → Type 0) (text_of : Y → List ℕ) (given : List (List ℕ)) (shown : List ℕ) (refused : Bool) : Type 0 where
+  pub lines : List (List ℕ × Bool)
+  pub each : AllZip (ShowsEntry IsEntry text_of) given lines
+  pub is : shown ≡ in_lines (map (λ l. l.0) lines)
+  pub some : refused ≡ list_any (λ l. l.1) lines
+
+-- The same of the first entries of the text, before those that are left.
+pub record ShowsFirst {Y : Type 0} (IsEntry : List ℕ → Y → Type 0) (text_of : Y → List ℕ) (text : List ℕ) (left : List (List ℕ)) (shown : List ℕ) (refused : Bool) : Type 0 where
+  pub first : List (List ℕ)
+  pub are : entries text ≡ first ++ left
+  pub shows : ShowsEntries IsEntry text_of first shown refused

@@ -16,8 +16,7 @@ use Rattle.sshkey_entries.specs.KnownHosts.{IsKnownHost, known_text}
 use Rattle.sshkey_entries.specs.Entries.{IsNoEntry}
 use Rattle.sshkey_public.specs.PublicKeys.{public_of, comment_of}
 use Rattle.sshkey_public.specs.declared.public_key.PublicKey.{PublicKey}
-use Rattle.sshkey_tool.specs.Faults.{IsBegun, WritesWithStatus}
-use Rattle.sshkey_tool.specs.Lines.{HasNoLineEnd, IsCertificateText, line_end}
+use Rattle.sshkey_tool.specs.Lines.{IsBegun, WritesWithStatus, HasNoLineEnd, IsCertificateText, line_end}
 use Rattle.sshkey_tool.specs.Table.{Refused, answer_line, key_text, WritesFault, IsCutShort, IsOfLine, IsOfNoLine, IsRefusalLine, ShowsFile, ShowsFileEntry}
 use Rattle.sshkey_tool.specs.declared.command.Command.{Command}
 use Rattle.sshkey_tool.specs.declared.command.EntryFile.{EntryFile}

@@ -12,9 +12,7 @@ use Rattle.sshkey_model.specs.Names.{Sha256}
 use Rattle.sshkey_entries.specs.AuthorizedKeys.{IsAuthorizedKey, authorized_text}
 use Rattle.sshkey_entries.specs.Entries.{entries}
 use Rattle.sshkey_entries.specs.KnownHosts.{IsKnownHost, known_text}
-use Rattle.sshkey_tool.specs.Faults.{IsBegun, WritesWithStatus}
-use Rattle.sshkey_tool.specs.EntryLines.{ShowsEntries, ShowsEntry, ShowsFirst}
-use Rattle.sshkey_tool.specs.Lines.{line_end, IsCertificateText, HasNoLineEnd, refusal_line}
+use Rattle.sshkey_tool.specs.Lines.{IsBegun, WritesWithStatus, ShowsEntries, ShowsEntry, ShowsFirst, line_end, IsCertificateText, HasNoLineEnd, refusal_line}
 use Rattle.sshkey_tool.specs.declared.command.Command.{Command}
 use Rattle.sshkey_tool.specs.declared.command.Command.TheVariants as commands
 use Rattle.sshkey_tool.specs.declared.command.EntryFile.{EntryFile}

@@ -2,9 +2,8 @@
 
 ghost use Rattle.std.specs.Prelude.{◌≡◌, IfOk, None, map, string_bytes};
 ghost use Rattle.sshkey_keys.specs.Keys.{key_of};
-ghost use Rattle.sshkey_cert_values.specs.CertTypes.{type_of};
-ghost use Rattle.sshkey_cert_values.specs.OptionMaps.{options_of};
-ghost use Rattle.sshkey_cert.specs.CertificateValues.{certificate_of};
+ghost use Rattle.sshkey_cert_values.specs.CertificateFields.{type_of, options_of};
+ghost use Rattle.sshkey_cert.specs.Certificates.{certificate_of};
 ghost use Rattle.sshkey_tool.specs.Lines.{MakesLines, SaysAllowed, end_text, field_lines, option_line, principal_lines, subject_lines, type_word, window_lines};
 ghost use Rattle.sshkey_tool.specs.Outcomes.{ShowsCertificate, ShowsAuthority};
 

@@ -1,6 +1,6 @@
 //! Writing the output.
 
-ghost use Rattle.sshkey_tool.specs.Faults.{WritesWhole, WritesWithStatus};
+ghost use Rattle.sshkey_tool.specs.Lines.{WritesWhole, WritesWithStatus};
 
 use std::io::{ErrorKind, Write};
 

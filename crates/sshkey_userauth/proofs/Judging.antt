@@ -9,7 +9,7 @@ use Rattle.sshkey_model.specs.Parts.{flat}
 use Rattle.sshkey_model.specs.Reading.{Fault, ◌>>=◌, whole}
 use Rattle.sshkey_terms.specs.Slices.{Keeps}
 use Rattle.sshkey_cert_ref.specs.CertificateRef.{certificate_bytes, certificate_of}
-use Rattle.sshkey_cert_ref.specs.Spelled.{spelled_in}
+use Rattle.sshkey_cert_ref.specs.Certificates.{spelled_in}
 use Rattle.sshkey_cert_ref.specs.declared.certificate_ref.CertificateRef.{CertificateRef}
 use Rattle.sshkey_cert_ref.proofs.Certificates.{spelled_is}
 use Rattle.sshkey_userauth.specs.Requests.{UserauthRequest, userauth_request}

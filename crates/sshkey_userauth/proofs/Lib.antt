@@ -1,6 +1,4 @@
-pub mod Calling
+pub mod Requests
 pub mod RequestTrees
 pub mod Lawful
-pub mod Accepted
-pub mod Measured
 pub mod Judging

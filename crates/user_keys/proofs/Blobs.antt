@@ -16,10 +16,8 @@ use Rattle.base64.specs.GeneralPurpose.{encode_of}
 use Rattle.sshkey_entries.proofs.Fields.{whites_are}
 use Rattle.sshkey_entries.proofs.Fronts.{nothing_stays, skipped, stays}
 use Rattle.sshkey_entries.specs.AuthorizedKeys.{AuthorizedKey}
-use Rattle.sshkey_entries.specs.Fields.{AreKeyFields, CutsWord, is_white, without_blanks}
-use Rattle.sshkey_entries.specs.Fronts.{without_front}
+use Rattle.sshkey_entries.specs.Fields.{AreKeyFields, CutsWord, is_white, without_blanks, without_front, is_blank}
 use Rattle.sshkey_entries.specs.OpenSshLines.{IsAuthorizedLine}
-use Rattle.sshkey_entries.specs.OptionEnds.{is_blank}
 use Rattle.sshkey_model.proofs.Base64Words.{IsDark, is_dark, word_dark}
 use Rattle.sshkey_model.specs.Grammar.{SpellsWith}
 use Rattle.sshkey_model.specs.Keys.{Dsa, Ecdsa, Ed25519, HasKeyPlaces, IsKey, Key, Opaque, Rsa, SkEcdsa, SkEd25519, body, headed, key, key_algorithm}

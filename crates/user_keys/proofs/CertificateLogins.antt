@@ -8,12 +8,12 @@ use Rattle.login_policy.specs.declared.client.Client.{Client}
 use Rattle.login_policy.specs.declared.grant.Grant as grants
 use Rattle.login_policy.specs.declared.refusal.LoginRefusal as policies
 use Rattle.login_policy.specs.declared.refusal.LoginRefusal.TheVariants as policy_refusal
-use Rattle.login_terms.specs.Terms.{Terms, terms_of}
-use Rattle.openssh_limits.specs.Keys.{openssh_accepts_key}
+use Rattle.login_terms.specs.Options.{Terms, terms_of}
+use Rattle.openssh_limits.specs.Limits.{openssh_accepts_key}
 use Rattle.sshkey_base.specs.declared.error.Error.{Error}
 use Rattle.sshkey_base.specs.declared.error.Error.TheVariants as error
 use Rattle.sshkey_cert.specs.Validity.{fingerprint_of}
-use Rattle.sshkey_cert_values.specs.OptionMaps.{options_of}
+use Rattle.sshkey_cert_values.specs.CertificateFields.{options_of}
 use Rattle.sshkey_fingerprints.specs.declared.fingerprint.Fingerprint.{Fingerprint}
 use Rattle.sshkey_keys.specs.Fingerprints.{IsFingerprint}
 use Rattle.sshkey_model.specs.Certificates.{Certificate, normal_certificate, SpellsCertificate}
@@ -25,9 +25,8 @@ use Rattle.sshkey_model.specs.Parts.{flat}
 use Rattle.user_keys.specs.Answers.{IsWhyNoLine}
 use Rattle.user_keys.specs.CertificateLogins.{AdmitsBy, BindsTogether, CertificateLogin, FindsLine, IsAsStrictBy, IsLineFor, IsRefusalOf, IsWhyUnread, client_of, policy_login}
 use Rattle.user_keys.specs.Certificates.{judged_by, merged, merged_with, name_for}
-use Rattle.user_keys.specs.FirstLines.{LetsFirst, TakesAsTold, TakesFirst}
+use Rattle.user_keys.specs.UserLogins.{LetsFirst, TakesAsTold, TakesFirst, GrantsFirst, Lets, MayLet, OfCertificate}
 use Rattle.user_keys.specs.Spellings.{MaySpell, own_part}
-use Rattle.user_keys.specs.UserLogins.{GrantsFirst, Lets, MayLet, OfCertificate}
 use Rattle.user_keys.specs.declared.answer.Judgement.{Judgement}
 use Rattle.user_keys.specs.declared.answer.Judgement.TheVariants as judgement
 use Rattle.user_keys.specs.declared.grant.NamedLine.{NamedLine}

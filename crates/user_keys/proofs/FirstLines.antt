@@ -5,19 +5,22 @@ use Rattle.std.proofs.lemmas.List.{get_or_append_left, get_or-append_right, leng
 use Rattle.std.proofs.Math.Seq.{get_or-append_seam}
 use Rattle.std.specs.List.{Any}
 use Rattle.std.specs.Prelude.{Contains, IsErrAnd, IsSome, option_map}
-use Rattle.openssh_limits.specs.Keys.{openssh_accepts_key}
+use Rattle.openssh_limits.specs.Limits.{openssh_accepts_key}
 use Rattle.sshkey_krl.specs.Revocations.{is_key_revoked}
 use Rattle.sshkey_model.specs.Keys.{Key}
-use Rattle.login_terms.specs.Terms.{Terms}
+use Rattle.login_terms.specs.Options.{Terms, terms_of}
 use Rattle.user_keys.specs.Answers.{AsksOfLines, GrantsExactly, IsWhyNoLine, SaysOf, first_refused, refusal_for}
 use Rattle.user_keys.specs.Spellings.{MaySpell, own_part}
-use Rattle.user_keys.specs.FirstLines.{EndsBy, IsFirst, LetsFirst, TakesAsTold, TakesFirst}
-use Rattle.user_keys.specs.UserLogins.{Admits, Credential, Ends, GrantsFirst, IsListedBy, OfKey, RefusesFor, UserLogin, listed_key}
+use Rattle.user_keys.specs.UserLogins.{EndsBy, IsFirst, LetsFirst, TakesAsTold, TakesFirst, Admits, Credential, Ends, GrantsFirst, IsListedBy, OfKey, RefusesFor, UserLogin, listed_key, IsOwn, is_certificate}
 use Rattle.user_keys.specs.declared.answer.LineVerdict.TheVariants as verdict
 use Rattle.user_keys.specs.declared.grant.UserGrant.{UserGrant}
 use Rattle.user_keys.specs.declared.refusal.Reason.{Reason}
 use Rattle.user_keys.specs.declared.refusal.UserRefusal.{UserRefusal}
 use Rattle.user_keys.specs.declared.refusal.UserRefusal.TheVariants as refusal
+use Rattle.sshkey_entries.specs.Answers.{Tells}
+use Rattle.sshkey_entries.specs.declared.reading.Reading.{Reading}
+use Rattle.login_terms.specs.declared.terms.Terms as code
+use Rattle.user_keys.specs.Lines.{IsFor, MayBeFor}
 
 -- ---- some of a list
 
@@ -165,3 +168,9 @@ module _ (login : UserLogin) (by : Credential) where
 pub admitted : (login : UserLogin) (key : Key) (revokes_key : List ℕ → Bool) → IsTrue (openssh_accepts_key login.least_rsa_bits key) → is_key_revoked revokes_key key ≡ false → (r : Result UserGrant UserRefusal) → IfOk r (λ g. g.certified ≡ None) → GrantsExactly (GrantsFirst login (OfKey key)) r → GrantsExactly (Admits login key revokes_key) r
 admitted login key revokes_key accepted unrevoked (Ok g) by_key is = record { accepted = accepted; unrevoked = unrevoked; granted = is; by_key = by_key }
 admitted login key revokes_key accepted unrevoked (Err r) by_key none = λ other g is. none other g is.granted
+
+-- Whose lines are read.
+
+-- what a line says that is for the key whose lines they are
+pub own_reading : (by : Credential) (line : List ℕ) (authority : Bool) (key : Key) → authority ≡ is_certificate by → key ≡ listed_key by → (r : Reading code.Terms) → Tells terms_of (IsFor authority key line) (MayBeFor key line) r → Tells terms_of (IsOwn by line) (MayBeFor (listed_key by) line) r
+own_reading by line authority key by_one same r told = subst (λ (k : Key). Tells terms_of (IsFor (is_certificate by) k line) (MayBeFor k line) r) same (subst (λ (a : Bool). Tells terms_of (IsFor a key line) (MayBeFor key line) r) by_one told)

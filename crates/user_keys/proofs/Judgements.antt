@@ -2,7 +2,7 @@
 use denote.Ref.{Bor}
 use Rattle.std.proofs.Common.{◌≡◌, ◌∙◌, ℕ, List, Bool, true, false, Option, ap, inl, inr, refl, subst, sym}
 use Rattle.std.specs.declared.net.ip_addr.IpAddr.{IpAddr}
-use Rattle.login_terms.specs.Terms.{Terms, terms_of}
+use Rattle.login_terms.specs.Options.{Terms, terms_of}
 use Rattle.login_terms.specs.declared.terms.Terms as code
 use Rattle.user_keys.specs.Answers.{FollowsFrom, SaysOf}
 use Rattle.user_keys.specs.Judgements.{CountsAt, Judges, LetsFrom, NamesInVain, joined}

@@ -1,20 +1,13 @@
 mod Blobs
 pub mod FirstLines
 mod Judgements
-mod KeyNames
 mod Lines
 pub mod LongParts
 mod Places
 mod Spelled
-mod Searches
-mod Unmarked
+mod Spellings
 mod SkippedLines
-mod Unlisted
-mod Shown
-mod ListedNames
-pub mod CertificateLogins
 mod PrincipalLines
+pub mod CertificateLogins
 pub mod Principals
-mod LoginExamples
-mod EdgeExamples
-mod NameExamples
+mod ExampleLemmas

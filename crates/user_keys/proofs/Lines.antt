@@ -1,25 +1,67 @@
--- Which key a line is for.
-use Rattle.std.proofs.Common.{◌≡◌, ◌≢◌, ◌∙◌, ◌≤◌, ℕ, List, Bool, true, false, not, IfOk, Result, Ok, Err, ap, inl, inr, length, refl, subst, sym}
+-- Where the name of a key stands in a line.
+use Rattle.std.proofs.Common.{◌≡◌, ◌∙◌, ◌-◌, ◌<◌, ℕ, List, ◌++◌, true, ap, arith, drop, get_or, inl, inr, length, refl, subst, sym, take, ◌≢◌, ◌≤◌, Bool, false, not, IfOk, Result, Ok, Err}
+use Rattle.std.proofs.Math.Seq.{drop-append_seam, take-append_seam}
+use Rattle.std.proofs.lemmas.List.{get_or_append_left, get_or-append_right, length-append}
+use Rattle.std.proofs.lemmas.List.Sums.{position_or_len_is}
+use Rattle.std.specs.List.{before_first, position_or_len, All, Any}
+use Rattle.sshkey_entries.proofs.OneEntry.{one_end}
+use Rattle.sshkey_entries.specs.Fields.{CutsField, EndsField, without_blanks, EndsOptions, is_blank}
+use Rattle.sshkey_model.specs.Keys.{Key}
+use Rattle.user_keys.specs.Lines.{BeginsWithName, HasName, IsEntryFor, IsFor, IsTextEntry, MayBeEntryFor, MayBeFor, before_zero, is_zero, AreTerms, MayBeTerms}
 use Rattle.std.proofs.Math.Bool.{beq}
 use Rattle.std.specs.Prelude.{slice_index}
 use Rattle.std.specs.Str.{IsUtf8}
 use Rattle.sshkey_entries.specs.AuthorizedKeys.{AuthorizedKey}
 use Rattle.sshkey_entries.specs.Entries.{IsNoEntry, hash_sign}
-use Rattle.sshkey_entries.specs.Fields.{without_blanks}
 use Rattle.sshkey_entries.specs.Laws.{EntriesDetermineValues}
 use Rattle.sshkey_entries.specs.OpenSshLines.{IsAuthorizedLine}
-use Rattle.sshkey_model.specs.Keys.{Key}
-use Rattle.sshkey_entries.proofs.Told.{told_as}
-use Rattle.sshkey_entries.specs.Readings.{Tells}
-use Rattle.login_terms.specs.Terms.{Terms, terms_of}
+use Rattle.sshkey_entries.proofs.OptionItems.{told_as}
+use Rattle.sshkey_entries.specs.Answers.{Tells}
+use Rattle.login_terms.specs.Options.{Terms, terms_of}
 use Rattle.sshkey_entries.specs.declared.reading.Reading.{Reading}
 use Rattle.sshkey_entries.specs.declared.reading.Reading.TheVariants.{Is, Rejected, Unclear}
 use Rattle.login_terms.specs.declared.terms.Terms as code
-use Rattle.user_keys.specs.Lines.{HasName, IsEntryFor, IsFor, IsTextEntry, MayBeEntryFor, MayBeFor, before_zero, is_zero}
-use Rattle.user_keys.specs.Options.{AreTerms, MayBeTerms}
 use Rattle.user_keys.specs.Spellings.{AreMarks, HasMark, MaySpell, StandIn, own_part}
 use Rattle.user_keys.specs.declared.marks.Marks.{Marks}
 use Rattle.user_keys.proofs.Blobs.{entry_spells, spelled_before}
+use Rattle.std.proofs.lemmas.List.Elements.{All-get_or}
+use Rattle.user_keys.specs.UserLogins.{Credential, Ends, IsListedBy, UserLogin, is_certificate, listed_key}
+use Rattle.user_keys.proofs.Judgements.{passes}
+
+ends_there : (field rest : List ℕ) → EndsField rest → length field < length (field ++ rest) → is_blank (get_or (field ++ rest) (length field) 0) ≡ true
+ends_there field rest (inl none) less = absurd (omega (arith, less, length-append field rest, ap length none))
+ends_there field rest (inr blank) less =
+    let start : length field - length field ≡ 0 = omega arith in
+    ap is_blank (get_or-append_right field rest (length field) (length field) 0 refl (omega arith) ∙ ap (λ (k : ℕ). get_or rest k 0) start) ∙ blank
+
+-- what stands before the first blank
+pub first_field : (text field rest : List ℕ) → CutsField text field rest → field ≡ before_first is_blank text
+first_field text field rest cut =
+    let at : position_or_len is_blank text ≡ length field = position_or_len_is is_blank text (length field) 0
+    (omega (arith, ap length cut.is, length-append field rest))
+    (λ k l. ap is_blank (ap (λ (t : List ℕ). get_or t k 0) cut.is ∙ get_or_append_left field rest 0 k l) ∙ cut.one_word k l)
+    (λ l. ap (λ (t : List ℕ). is_blank (get_or t (length field) 0)) cut.is ∙ ends_there field rest cut.ends (subst (λ (t : List ℕ). length field < length t) cut.is l)) in
+    sym (ap (λ (k : ℕ). take k text) at ∙ ap (take (length field)) cut.is ∙ take-append_seam field rest)
+
+-- ---- behind options
+
+module _ (key : Key) (text : List ℕ) (first : BeginsWithName key text → ⊥) where
+  pub behind : (front rest fields : List ℕ) → text ≡ front ++ rest → EndsOptions text (length front) → fields ≡ without_blanks rest → (BeginsWithName key fields → HasName key text) × (HasName key text → BeginsWithName key fields)
+  behind front rest fields is ends skips =
+      let left : drop (length front) text ≡ rest = ap (drop (length front)) is ∙ drop-append_seam front rest in
+      let same : fields ≡ without_blanks (drop (length front) text) = skips ∙ ap without_blanks (sym left) in (
+        λ begins. inr (length front, ends, subst (BeginsWithName key) same begins),
+        λ has. elim has [
+          | inl begins ↦ absurd (first begins)
+          | inr later ↦ subst (BeginsWithName key) (ap (λ (k : ℕ). without_blanks (drop k text)) (one_end text later.0 (length front) later.1 ends) ∙ sym same) later.2
+        ],
+      )
+
+  pub nowhere : ((place : ℕ) → EndsOptions text place → ⊥) → HasName key text → ⊥
+  nowhere none (inl begins) = first begins
+  nowhere none (inr later) = none later.0 later.1
+
+-- Which key a line is for.
 
 -- ---- marks
 
@@ -129,3 +171,22 @@ module _ (authority : Bool) (key : Key) (line : List ℕ) where
           | inl other ↦ absurd (none other.0 other.1)
           | inr odd ↦ (are_marks (own_part key) (before_zero line) m are odd.spelled, odd.has_name utf8)
         ]) r
+
+-- Lines without a mark are not for the key.
+
+module _ (login : UserLogin) (by : Credential) (long : 17 ≤ length (own_part (listed_key by))) (m : Marks) (are : AreMarks (own_part (listed_key by)) m) where
+  passed : (line : List ℕ) → (HasMark m line → ⊥) → ¬ IsListedBy by line × ¬ Ends login by line
+  passed line none =
+      let not = not_marked (is_certificate by) (listed_key by) line long (λ may. none (are_marks (own_part (listed_key by)) line m are may)) in
+      passes login by line not.0 not.1
+
+  module _ (before : List (List ℕ)) (all : All (λ line. ¬ HasMark m line) before) where
+    -- one of them has none
+    without : (k : ℕ) (line : List ℕ) → k < length before → get_or before k line ≡ line → HasMark m line → ⊥
+    without k line l is = subst (λ (x : List ℕ). ¬ HasMark m x) is (All-get_or (λ x. ¬ HasMark m x) before k line l all)
+
+    pub none_listed : ¬ Any (IsListedBy by) before
+    none_listed some = (passed some.1 (without some.0 some.1 some.2 some.3)).0 some.4
+
+    pub none_ends : ¬ Any (Ends login by) before
+    none_ends some = (passed some.1 (without some.0 some.1 some.2 some.3)).1 some.4

@@ -2,7 +2,7 @@
 use Rattle.std.proofs.Common.{◌≡◌, ◌≤◌, ◌*◌, ℕ, zero, suc, List, [], ◌∷◌, Bool, true, false, IsTrue, ◌&&◌, Some, None, cond, length, arith, tests}
 use Rattle.std.proofs.lemmas.Bool.{and_parts, leb-true}
 use Rattle.std.specs.Prelude.{nat_le, nat_lt}
-use Rattle.openssh_limits.specs.Keys.{bit_len, bits_in, is_read_number, openssh_accepts_key, read_bits, required}
+use Rattle.openssh_limits.specs.Limits.{bit_len, bits_in, is_read_number, openssh_accepts_key, read_bits, required}
 use Rattle.sshkey_model.specs.Keys.{Dsa, Ecdsa, Ed25519, IsKey, Key, Opaque, Rsa, SkEcdsa, SkEd25519}
 use Rattle.sshkey_model.specs.Names.{Nistp256, Nistp384, Nistp521}
 use Rattle.sshkey_model.specs.Points.{is_point}

@@ -2,27 +2,24 @@
 use Rattle.std.proofs.Common.{◌≡◌, ◌∙◌, ◌==◌, ◌&&◌, ◌+◌, ◌++◌, ℕ, List, [], ◌∷◌, Bool, Bor, true, false, not, IfErr, IfOk, IsTrue, Option, Some, None, Result, Err, Ok, ap, bytes_eq, inl, inr, length, map, refl, string_bytes, subst, sym}
 use Rattle.std.specs.List.{Any, list_any}
 use Rattle.std.specs.Prelude.{String}
-use Rattle.sshkey_entries.proofs.Told.{told_as}
-use Rattle.sshkey_entries.specs.Readings.{Tells}
-use Rattle.login_terms.specs.Terms.{Terms, terms_of}
+use Rattle.sshkey_entries.proofs.OptionItems.{told_as}
+use Rattle.sshkey_entries.specs.Answers.{Tells}
+use Rattle.login_terms.specs.Options.{Terms, terms_of}
 use Rattle.sshkey_entries.specs.declared.reading.Reading.{Reading}
 use Rattle.sshkey_entries.specs.declared.reading.Reading.TheVariants.{Is, Rejected, Unclear}
 use Rattle.login_terms.specs.declared.terms.Terms as code
 use Rattle.sshkey_model.specs.Certificates.{Certificate}
 use Rattle.user_keys.specs.Certificates.{is_listed}
-use Rattle.user_keys.specs.FirstLines.{EndsBy, IsFirst}
-use Rattle.user_keys.specs.Options.{AreTerms, MayBeTerms}
-use Rattle.user_keys.specs.PrincipalLogins.{DecidesFirst, IsPrincipalLine, IsWhyNoDecision, IsWhyNotAllowed, IsWhyUndecided, JudgesPrincipal, RefusesPrincipal, judged_in_place}
-use Rattle.user_keys.specs.Principals.{Decides, DecidesBy, HasOptions, MayDecide, MayDecideBy, SplitsLine, is_principal, lines_at_feeds, name_in, names_principal}
-use Rattle.user_keys.specs.UserLogins.{UserLogin}
+use Rattle.user_keys.specs.UserLogins.{EndsBy, IsFirst, UserLogin}
+use Rattle.user_keys.specs.Lines.{AreTerms, MayBeTerms}
+use Rattle.user_keys.specs.Principals.{DecidesFirst, IsPrincipalLine, IsWhyNoDecision, IsWhyNotAllowed, IsWhyUndecided, JudgesPrincipal, RefusesPrincipal, judged_in_place, Decides, DecidesBy, HasOptions, MayDecide, MayDecideBy, SplitsLine, is_principal, lines_at_feeds, name_in, names_principal}
 use Rattle.user_keys.specs.declared.answer.Judgement.{Judgement}
 use Rattle.user_keys.specs.declared.answer.Judgement.TheVariants as judgement
 use Rattle.user_keys.specs.declared.refusal.UserRefusal.{UserRefusal}
 use Rattle.user_keys.specs.declared.refusal.UserRefusal.TheVariants as refusal
 use Rattle.user_keys.proofs.FirstLines.{here, none_lets, nothing_lets, one_line, one_terms}
 use Rattle.user_keys.proofs.Judgements.{one_judgement}
-use Rattle.user_keys.proofs.ListedNames.{mapped}
-use Rattle.user_keys.proofs.PrincipalLines.{one_options}
+use Rattle.user_keys.proofs.PrincipalLines.{mapped, one_options}
 
 -- ---- a line
 

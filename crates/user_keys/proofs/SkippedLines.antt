@@ -11,8 +11,7 @@ use Rattle.std.specs.Str.Lines.{lines, lines_of_parts, strip_carriage_return}
 use Rattle.memchr.specs.Find.{IsLastByte, is_byte}
 use Rattle.sshkey_entries.proofs.TextLines.{more_lines}
 use Rattle.user_keys.specs.Principals.{is_feed}
-use Rattle.user_keys.specs.Skips.{SkipsLines}
-use Rattle.user_keys.specs.Spellings.{HasMark, IsUnmarked}
+use Rattle.user_keys.specs.Spellings.{SkipsLines, HasMark, IsUnmarked}
 use Rattle.user_keys.specs.declared.marks.Marks.{Marks}
 
 line_before : (front after : List ℕ) → All (λ c. is_feed c ≡ false) front → lines (front ++ (10 ∷ after)) ≡ strip_carriage_return front ∷ lines after

@@ -1,13 +1,12 @@
 -- What is answered of a login, and where memory is needed.
 use Rattle.std.specs.Prelude.{◌≡◌, ◌≢◌, ◌⊎◌, ℕ, List, Bool, true, false, IsTrue, Option, Some, None, Result, Ok, Err}
 use Rattle.std.specs.List.{Any}
-use Rattle.openssh_limits.specs.Keys.{openssh_accepts_key}
+use Rattle.openssh_limits.specs.Limits.{openssh_accepts_key}
 use Rattle.sshkey_krl.specs.Revocations.{is_key_revoked}
 use Rattle.sshkey_model.specs.Keys.{Key}
-use Rattle.login_terms.specs.Terms.{Terms, terms_of}
-use Rattle.user_keys.specs.FirstLines.{IsFirst}
+use Rattle.login_terms.specs.Options.{Terms, terms_of}
+use Rattle.user_keys.specs.UserLogins.{IsFirst, Credential, Ends, IsListedBy, Lets, MayLet, OfKey, RefusesFor, UserLogin, listed_key}
 use Rattle.user_keys.specs.Spellings.{MaySpell, own_part}
-use Rattle.user_keys.specs.UserLogins.{Credential, Ends, IsListedBy, Lets, MayLet, OfKey, RefusesFor, UserLogin, listed_key}
 use Rattle.login_terms.specs.declared.terms.Terms as code
 use Rattle.user_keys.specs.declared.answer.Judgement.{Judgement}
 use Rattle.user_keys.specs.declared.answer.Judgement.TheVariants as judgement

@@ -12,11 +12,11 @@ use Rattle.login_policy.specs.declared.client.Client.TheVariants.{At, Unknown}
 use Rattle.login_policy.specs.declared.grant.Grant as grants
 use Rattle.login_policy.specs.declared.refusal.LoginRefusal as policies
 use Rattle.login_policy.specs.declared.refusal.LoginRefusal.TheVariants as policy_refusal
-use Rattle.login_terms.specs.Terms.{Terms, terms_of}
-use Rattle.openssh_limits.specs.Keys.{openssh_accepts_key}
+use Rattle.login_terms.specs.Options.{Terms, terms_of}
+use Rattle.openssh_limits.specs.Limits.{openssh_accepts_key}
 use Rattle.sshkey_base.specs.Reading.{NoSpelling}
 use Rattle.sshkey_base.specs.declared.error.Error.{Error}
-use Rattle.sshkey_cert.specs.Faults.{IsFaultOf}
+use Rattle.sshkey_cert.specs.Certificates.{IsFaultOf}
 use Rattle.sshkey_keys.specs.Fingerprints.{IsFingerprint}
 use Rattle.sshkey_krl.specs.Revocation as krl
 use Rattle.sshkey_model.specs.Certificates.{Certificate, normal_certificate, certificate_format, SpellsCertificate}
@@ -26,9 +26,8 @@ use Rattle.sshkey_model.specs.Parts.{flat}
 use Rattle.sshkey_model.specs.Verification.{Question}
 use Rattle.user_keys.specs.Answers.{IsWhyNoLine}
 use Rattle.user_keys.specs.Certificates.{merged, name_for}
-use Rattle.user_keys.specs.FirstLines.{LetsFirst, TakesAsTold, TakesFirst}
+use Rattle.user_keys.specs.UserLogins.{LetsFirst, TakesAsTold, TakesFirst, Lets, MayLet, OfCertificate, UserLogin, login_of}
 use Rattle.user_keys.specs.Spellings.{MaySpell, own_part}
-use Rattle.user_keys.specs.UserLogins.{Lets, MayLet, OfCertificate, UserLogin, login_of}
 use Rattle.user_keys.specs.declared.login.UserLogin as code
 use Rattle.user_keys.specs.declared.grant.Certified.{Certified}
 use Rattle.user_keys.specs.declared.grant.NamedLine.{NamedLine}

@@ -4,7 +4,7 @@ use Rattle.std.specs.Prelude.{◌≡◌, ℕ, ◌==◌, List, [], ◌∷◌, Boo
 use Rattle.std.specs.List.{list_any}
 use Rattle.login_policy.specs.KnownOptions.{force_command, no_touch_required, verify_required}
 use Rattle.login_terms.specs.Questions.{first_of}
-use Rattle.login_terms.specs.Terms.{Terms}
+use Rattle.login_terms.specs.Options.{Terms}
 use Rattle.login_terms.specs.declared.permissions.Permissions.{Permissions}
 use Rattle.sshkey_matching.specs.SourceAddresses.{pieces}
 use Rattle.sshkey_model.specs.Certificates.{Certificate}

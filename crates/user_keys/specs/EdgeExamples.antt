@@ -6,7 +6,7 @@ use Rattle.std.specs.declared.net.ip_addr.IpAddr.{IpAddr}
 use Rattle.login_policy.specs.Logins as policy
 use Rattle.login_policy.specs.Logins.{LetsIn}
 use Rattle.login_policy.specs.declared.client.Client.TheVariants.{At, Unknown}
-use Rattle.login_terms.specs.Terms.{Terms, no_terms, terms_of}
+use Rattle.login_terms.specs.Options.{Terms, no_terms, terms_of}
 use Rattle.sshkey_entries.specs.AuthorizedKeys.{AuthorizedKey}
 use Rattle.sshkey_entries.specs.OpenSshLines.{IsAuthorizedLine}
 use Rattle.sshkey_krl.specs.Revocations.{is_key_revoked}
@@ -18,18 +18,15 @@ use Rattle.sshkey_model.specs.Keys.{Dsa, DsaKey, Key, Opaque}
 use Rattle.sshkey_model.specs.Parts.{flat}
 use Rattle.user_keys.specs.CertificateLogins.{AdmitsBy, BindsTogether, CertificateLogin, IsCertified, IsCertifiedBy, client_of}
 use Rattle.user_keys.specs.Certificates.{merged}
-use Rattle.user_keys.specs.Filters.{IsPassedOver}
-use Rattle.user_keys.specs.FirstLines.{IsFirst, LetsFirst}
+use Rattle.user_keys.specs.Lines.{IsPassedOver, HasName, IsFor, IsNameFor, IsOddlySpelled, IsTextEntry, MayBeFor, before_zero, is_zero, AreTerms, MayBeTerms}
+use Rattle.user_keys.specs.UserLogins.{IsFirst, LetsFirst, Admits, GrantsFirst, IsOwn, JudgesWith, MayAllow, OfCertificate, OfKey, RefusesFor, UserLogin}
 use Rattle.sshkey_entries.specs.Entries.{IsNoEntry, hash_sign}
 use Rattle.sshkey_entries.specs.Fields.{without_blanks}
 use Rattle.std.specs.Str.{IsUtf8}
-use Rattle.user_keys.specs.Lines.{HasName, IsFor, IsNameFor, IsOddlySpelled, IsTextEntry, MayBeFor, before_zero, is_zero}
 use Rattle.user_keys.specs.LoginExamples.{by_key, login_at, other}
-use Rattle.user_keys.specs.Options.{AreTerms, MayBeTerms}
 use Rattle.user_keys.specs.Principals.{DecidesBy, HasOptions, MayDecideBy, after_last, is_feed, is_space, is_tab}
 use Rattle.user_keys.specs.Spellings.{MaySpell, StandAt, own_part}
 use Rattle.user_keys.specs.TermExamples.{expiring}
-use Rattle.user_keys.specs.UserLogins.{Admits, GrantsFirst, IsOwn, JudgesWith, MayAllow, OfCertificate, OfKey, RefusesFor, UserLogin}
 use Rattle.user_keys.specs.declared.answer.Judgement.TheVariants as judgement
 use Rattle.user_keys.specs.declared.grant.Certified.{Certified}
 use Rattle.user_keys.specs.declared.grant.UserGrant.{UserGrant}

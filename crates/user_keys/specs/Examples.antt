@@ -2,7 +2,7 @@
 use Rattle.std.specs.Prelude.{◌≡◌, ℕ, List, [], ◌∷◌, ◌++◌, true, false, None, Some, codes}
 use Rattle.sshkey_model.specs.HexText.{hex}
 use Rattle.sshkey_matching.specs.declared.times.Span.{Span}
-use Rattle.login_terms.specs.Terms.{all_permitted, none_permitted}
+use Rattle.login_terms.specs.Options.{all_permitted, none_permitted}
 use Rattle.user_keys.specs.Certificates.{agree, both_permit, first_listed, judged_by}
 use Rattle.user_keys.specs.Judgements.{CountsAt, joined}
 use Rattle.user_keys.specs.Principals.{name_in}

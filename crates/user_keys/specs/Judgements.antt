@@ -8,7 +8,7 @@ use Rattle.sshkey_matching.specs.SourceAddresses.{IsSeenAs}
 use Rattle.sshkey_matching.specs.declared.from.FromFault.{FromFault}
 use Rattle.sshkey_matching.specs.declared.from.FromFault.TheVariants.{Address, Host, List as Pieces}
 use Rattle.sshkey_matching.specs.declared.times.Span.{Span}
-use Rattle.login_terms.specs.Terms.{Terms}
+use Rattle.login_terms.specs.Options.{Terms}
 use Rattle.user_keys.specs.declared.answer.Answer.{Answer}
 use Rattle.user_keys.specs.declared.answer.Answer.TheVariants.{Yes, No, Unclear}
 use Rattle.user_keys.specs.declared.answer.Judgement.{Judgement}

@@ -1,20 +1,29 @@
--- Which key a line of authorized_keys is for, and on which terms (sshd(8), "AUTHORIZED_KEYS FILE
--- FORMAT").
-use Rattle.std.specs.Prelude.{◌≡◌, ◌≢◌, ◌⊎◌, ℕ, List, Bool, ◌==◌, IsSome, codes, drop, slice_index}
+-- What the options of a line say together (sshd(8), "AUTHORIZED_KEYS FILE FORMAT").
+use Rattle.std.specs.Prelude.{ℕ, List, ◌≡◌, ◌≢◌, ◌⊎◌, Bool, ◌==◌, IsSome, codes, drop, slice_index}
+use Rattle.sshkey_entries.specs.OptionItems.{MaySay, Says}
+use Rattle.login_terms.specs.Options.{Adds, MayBe, Terms, no_terms}
 use Rattle.std.specs.List.{before_first}
 use Rattle.std.specs.Str.{IsUtf8}
 use Rattle.sshkey_entries.specs.AuthorizedKeys.{AuthorizedKey}
 use Rattle.sshkey_entries.specs.Entries.{IsNoEntry, hash_sign}
-use Rattle.sshkey_entries.specs.Fields.{without_blanks}
+use Rattle.sshkey_entries.specs.Fields.{without_blanks, EndsOptions, is_blank}
 use Rattle.sshkey_entries.specs.OpenSshLines.{IsAuthorizedLine}
-use Rattle.sshkey_entries.specs.OptionEnds.{EndsOptions, is_blank}
 use Rattle.sshkey_entries.specs.OtherKeys.{IsShortName}
 use Rattle.sshkey_model.specs.Keys.{Key}
 use Rattle.sshkey_model.specs.Lines.{key_name}
 use Rattle.sshkey_model.specs.Names.{algorithm_name, algorithms, named}
-use Rattle.login_terms.specs.Terms.{Terms}
-use Rattle.user_keys.specs.Options.{AreTerms, MayBeTerms}
 use Rattle.user_keys.specs.Spellings.{MaySpell, own_part}
+
+-- The text is options that say this.
+abbrev pub AreTerms : List ℕ → Terms → Type 0
+AreTerms = Says Adds no_terms
+
+-- sshd may read the options of the text, as what cannot be told.
+abbrev pub MayBeTerms : List ℕ → Type 0
+MayBeTerms = MaySay Adds MayBe no_terms
+
+-- Which key a line of authorized_keys is for, and on which terms (sshd(8), "AUTHORIZED_KEYS FILE
+-- FORMAT").
 
 abbrev pub is_zero : ℕ → Bool
 is_zero c = c == 0
@@ -75,3 +84,11 @@ pub record IsOddlySpelled (key : Key) (line : List ℕ) : Type 0 where
 -- sshd may take the line for one of the key.
 abbrev pub MayBeFor : Key → List ℕ → Type 0
 MayBeFor key line = ((entry : AuthorizedKey) × IsTextEntry (before_zero line) entry × MayBeEntryFor key entry) ⊎ IsOddlySpelled key line
+
+-- Which lines of authorized_keys are none of a key's (sshd(8), "AUTHORIZED_KEYS FILE FORMAT").
+
+-- The line is for the key on no terms, as that of an authority or of none, and sshd cannot take it
+-- for one that is.
+pub record IsPassedOver (key : Key) (line : List ℕ) : Type 0 where
+  pub no_line : (authority : Bool) (t : Terms) → IsFor authority key line t → ⊥
+  pub not_taken : MayBeFor key line → ⊥

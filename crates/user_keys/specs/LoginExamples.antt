@@ -1,8 +1,8 @@
 -- Worked examples: which line lets a key or a certificate in, each part held and broken by itself; and
 -- which line an sshd takes.
 use Rattle.std.specs.Prelude.{◌≡◌, ℕ, List, [], ◌∷◌, ◌++◌, true, false, IsTrue, Option, None, Some, bytes_eq, codes, if◌then◌else◌, replicate}
-use Rattle.login_terms.specs.Terms.{Terms, no_terms, none_permitted, terms_of}
-use Rattle.sshkey_cert.specs.CertificateValues.{certificate_of}
+use Rattle.login_terms.specs.Options.{Terms, no_terms, none_permitted, terms_of}
+use Rattle.sshkey_cert.specs.Certificates.{certificate_of}
 use Rattle.sshkey_cert.specs.declared.certificate.Certificate as code
 use Rattle.sshkey_entries.specs.AuthorizedKeys.{AuthorizedKey}
 use Rattle.sshkey_keys.specs.Keys.{key_of}
@@ -12,12 +12,10 @@ use Rattle.sshkey_model.specs.Certificates.{Certificate}
 use Rattle.sshkey_model.specs.Keys.{Key, Dsa, Ecdsa, Ed25519, Rsa, SkEcdsa, SkEd25519, Opaque}
 use Rattle.sshkey_model.specs.Names.{Nistp256}
 use Rattle.user_keys.specs.Answers.{first_refused, refusal_for}
-use Rattle.user_keys.specs.FirstLines.{TakesAsTold, TakesFirst, but_tunnels}
-use Rattle.user_keys.specs.Lines.{IsEntryFor, MayBeEntryFor, MayBeFor, before_zero}
-use Rattle.user_keys.specs.Options.{AreTerms, MayBeTerms}
+use Rattle.user_keys.specs.UserLogins.{TakesAsTold, TakesFirst, but_tunnels, Credential, IsAsStrict, IsOwn, Lets, MayLet, OfCertificate, OfKey, UserLogin, credential_of, is_certificate, listed_key}
+use Rattle.user_keys.specs.Lines.{IsEntryFor, MayBeEntryFor, MayBeFor, before_zero, AreTerms, MayBeTerms}
 use Rattle.user_keys.specs.Spellings.{own_part}
 use Rattle.user_keys.specs.TermExamples.{expiring, for_names}
-use Rattle.user_keys.specs.UserLogins.{Credential, IsAsStrict, IsOwn, Lets, MayLet, OfCertificate, OfKey, UserLogin, credential_of, is_certificate, listed_key}
 use Rattle.user_keys.specs.declared.credential.Credential.TheVariants as code_by
 use Rattle.user_keys.specs.declared.grant.UserGrant.{UserGrant}
 use Rattle.user_keys.specs.declared.refusal.Reason.TheVariants as reason

@@ -4,11 +4,12 @@ use Rattle.std.specs.Prelude.{◌≡◌, ◌⊎◌, ℕ, ◌+◌, ◌-◌, ◌<�
 use Rattle.base64.specs.Engines.{standard}
 use Rattle.base64.specs.GeneralPurpose.{encode_of}
 use Rattle.memchr.specs.Find.{OccursAt}
-use Rattle.sshkey_entries.specs.Fields.{is_white}
-use Rattle.sshkey_entries.specs.Fronts.{without_front}
+use Rattle.sshkey_entries.specs.Fields.{is_white, without_front}
 use Rattle.user_keys.specs.declared.marks.Marks.{Marks}
 use Rattle.sshkey_model.specs.Keys.{Key, Dsa, Ecdsa, Ed25519, Rsa, SkEcdsa, SkEd25519, Opaque}
 use denote.Ref.{Bor}
+use Rattle.std.specs.List.{All}
+use Rattle.std.specs.Str.Lines.{lines}
 
 -- ---- the part by which a key is sought
 
@@ -79,3 +80,13 @@ Lacks symbols text = (k : ℕ) → OccursAt text symbols k → ⊥
 -- No mark stands in any part of the text.
 abbrev pub IsUnmarked : Marks → List ℕ → Type 0
 IsUnmarked m text = (before part after : List ℕ) → text ≡ before ++ (part ++ after) → HasMark m part → ⊥
+
+-- The lines at the front of a text that are not for a key, since none of its marks stands in them.
+
+-- The first lines of the text are so many without a mark, and its others are those of the rest.
+pub record SkipsLines (m : Marks) (text : List ℕ) (count : ℕ) (rest : List ℕ) : Type 0 where
+  pub before : List (List ℕ)
+  pub is : lines text ≡ before ++ lines rest
+  pub counted : count ≡ length before
+  pub unmarked : All (λ line. ¬ HasMark m line) before
+  pub smaller : count + length rest ≤ length text

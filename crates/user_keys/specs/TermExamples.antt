@@ -4,15 +4,14 @@
 use Rattle.std.specs.Prelude.{◌≡◌, ℕ, List, [], ◌∷◌, Bool, true, false, None, Some, codes}
 use Rattle.std.specs.declared.net.ip_addr.IpAddr.{IpAddr}
 use Rattle.std.specs.declared.net.ip_addr.IpAddr.TheVariants.{V4}
-use Rattle.login_terms.specs.Terms.{Terms, all_permitted, no_terms, none_permitted}
+use Rattle.login_terms.specs.Options.{Terms, all_permitted, no_terms, none_permitted}
 use Rattle.sshkey_model.specs.CertificateExamples.{openssh_certificate}
 use Rattle.sshkey_model.specs.Certificates.{Certificate}
 use Rattle.sshkey_model.specs.Options.{CertificateOption}
 use Rattle.sshkey_matching.specs.declared.times.Span.{Span}
 use Rattle.user_keys.specs.Certificates.{both_permit, judged_with, merged, merged_with, name_for}
 use Rattle.user_keys.specs.Judgements.{Judges, LetsFrom}
-use Rattle.user_keys.specs.PrincipalLogins.{judged_in_place}
-use Rattle.user_keys.specs.Principals.{AreOptionsIn, is_principal, lines_at_feeds, names_principal}
+use Rattle.user_keys.specs.Principals.{judged_in_place, AreOptionsIn, is_principal, lines_at_feeds, names_principal}
 use Rattle.user_keys.specs.declared.answer.Answer.TheVariants.{Yes, No, Unclear}
 use Rattle.user_keys.specs.declared.answer.Judgement.TheVariants as judgement
 use Rattle.user_keys.specs.declared.refusal.Reason.TheVariants as reason

@@ -1,9 +1,9 @@
 //! Whether a certificate lets its holder in, by an authority that authorized_keys lists.
 
 ghost use Rattle.std.specs.Prelude.{◌≡◌, ◌≢◌, IfErr, IfOk, IsTrue};
-ghost use Rattle.openssh_limits.specs.Keys.{openssh_accepts_key};
-ghost use Rattle.login_terms.specs.Terms.{terms_of};
-ghost use Rattle.sshkey_cert.specs.CertificateValues.{certificate_of};
+ghost use Rattle.openssh_limits.specs.Limits.{openssh_accepts_key};
+ghost use Rattle.login_terms.specs.Options.{terms_of};
+ghost use Rattle.sshkey_cert.specs.Certificates.{certificate_of};
 ghost use Rattle.sshkey_model.specs.Certificates.{IsCertificate};
 ghost use Rattle.openssh_limits.specs.Padding.{padding};
 ghost use Rattle.user_keys.specs.Answers.{GrantsExactly, IsWhyNoLine};

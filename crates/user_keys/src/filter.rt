@@ -2,7 +2,7 @@
 
 ghost use Rattle.std.specs.Prelude.{◌≡◌, ◌≤◌, ◌↔◌, false, IsTrue, length};
 ghost use Rattle.sshkey_keys.specs.Keys.{key_of};
-ghost use Rattle.user_keys.specs.Filters.{IsPassedOver};
+ghost use Rattle.user_keys.specs.Lines.{IsPassedOver};
 ghost use Rattle.user_keys.specs.Spellings.{MaySpell, own_part};
 
 use crate::marks::{Marks, own_part};

@@ -1,7 +1,7 @@
 //! The first line of authorized_keys that lets in.
 
 ghost use Rattle.std.specs.Prelude.{◌≡◌, ◌≢◌, ◌≤◌, IfErr, IfOk, None, length};
-ghost use Rattle.login_terms.specs.Terms.{terms_of};
+ghost use Rattle.login_terms.specs.Options.{terms_of};
 ghost use Rattle.user_keys.specs.Answers.{AsksOfLines, GrantsExactly, IsWhyNoLine, SaysOf};
 ghost use Rattle.user_keys.specs.Spellings.{AreMarks, MaySpell, own_part};
 ghost use Rattle.user_keys.specs.UserLogins.{GrantsFirst, IsAsStrict, JudgesLogin, credential_of, listed_key, login_of};

@@ -1,7 +1,7 @@
 //! Whether a key lets its holder in.
 
 ghost use Rattle.std.specs.Prelude.{◌≡◌, ◌≢◌, IfErr, IfOk, IsTrue, None};
-ghost use Rattle.openssh_limits.specs.Keys.{openssh_accepts_key};
+ghost use Rattle.openssh_limits.specs.Limits.{openssh_accepts_key};
 ghost use Rattle.sshkey_keys.specs.Keys.{key_of};
 ghost use Rattle.sshkey_model.specs.Keys.{IsKey};
 ghost use Rattle.user_keys.specs.Answers.{AsksOfKey, GrantsExactly, IsWhyNoKey, IsWhyNoLine};

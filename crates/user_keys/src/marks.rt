@@ -3,9 +3,8 @@
 ghost use Rattle.std.specs.Prelude.{◌≡◌, ◌↔◌, ◌<◌, ◌≤◌, IsTrue, length, not, position, take};
 ghost use Rattle.base64.specs.Engines.{standard};
 ghost use Rattle.base64.specs.GeneralPurpose.{encode_of};
-ghost use Rattle.sshkey_entries.specs.Fronts.{without_front};
+ghost use Rattle.sshkey_entries.specs.Fields.{without_front, is_white};
 ghost use Rattle.sshkey_keys.specs.Keys.{key_of};
-ghost use Rattle.sshkey_entries.specs.Fields.{is_white};
 ghost use Rattle.user_keys.specs.Spellings.{AreMarks, FindsAfter, FindsStart, Follow, HasMark, HasMarkAt, IsUnmarked, IsUnspaced, Lacks, StandAt, own_part};
 
 use base64::engine::general_purpose::STANDARD;

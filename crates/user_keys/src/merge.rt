@@ -1,8 +1,8 @@
 //! What a line and a certificate say together.
 
 ghost use Rattle.std.specs.Prelude.{◌≡◌, Some, option_map, string_bytes};
-ghost use Rattle.login_terms.specs.Terms.{terms_of};
-ghost use Rattle.sshkey_cert_values.specs.OptionMaps.{options_of};
+ghost use Rattle.login_terms.specs.Options.{terms_of};
+ghost use Rattle.sshkey_cert_values.specs.CertificateFields.{options_of};
 ghost use Rattle.user_keys.specs.Certificates.{agree, both_permit, merged_with};
 
 use crate::grant::{Certified, UserGrant};

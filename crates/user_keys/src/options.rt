@@ -1,9 +1,9 @@
 //! What the options of a line say.
 
 ghost use Rattle.std.specs.Prelude.{IfOk};
-ghost use Rattle.sshkey_entries.specs.Readings.{Tells};
-ghost use Rattle.login_terms.specs.Terms.{terms_of};
-ghost use Rattle.user_keys.specs.Options.{AreTerms, MayBeTerms};
+ghost use Rattle.sshkey_entries.specs.Answers.{Tells};
+ghost use Rattle.login_terms.specs.Options.{terms_of};
+ghost use Rattle.user_keys.specs.Lines.{AreTerms, MayBeTerms};
 
 use login_terms::{Reading, Terms};
 use sshkey_authorized_keys::read_options;

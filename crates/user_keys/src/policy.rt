@@ -1,9 +1,9 @@
 //! What a certificate says by itself, whatever line lets it in.
 
 ghost use Rattle.std.specs.Prelude.{◌≡◌, ◌≢◌, IfErr, IfOk, IsTrue};
-ghost use Rattle.openssh_limits.specs.Keys.{openssh_accepts_key};
+ghost use Rattle.openssh_limits.specs.Limits.{openssh_accepts_key};
 ghost use Rattle.sshkey_model.specs.Certificates.{certificate_format, SpellsCertificate};
-ghost use Rattle.sshkey_cert.specs.CertificateValues.{certificate_of};
+ghost use Rattle.sshkey_cert.specs.Certificates.{certificate_of};
 ghost use Rattle.sshkey_cert.specs.Validity.{fingerprints_of};
 ghost use Rattle.openssh_limits.specs.Padding.{padding};
 ghost use Rattle.user_keys.specs.CertificateLogins.{IsWhyUnread, PolicyGrants, RefusesByPolicy, client_of, login_with, policy_login};

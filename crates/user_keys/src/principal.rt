@@ -3,15 +3,14 @@
 
 ghost use Rattle.std.specs.List.{Any};
 ghost use Rattle.std.specs.Prelude.{◌≡◌, ◌≢◌, IfErr, IfOk, IsTrue, option_map};
-ghost use Rattle.sshkey_entries.specs.Readings.{Tells};
-ghost use Rattle.login_terms.specs.Terms.{terms_of};
-ghost use Rattle.sshkey_cert.specs.CertificateValues.{certificate_of};
+ghost use Rattle.sshkey_entries.specs.Answers.{Tells};
+ghost use Rattle.login_terms.specs.Options.{terms_of};
+ghost use Rattle.sshkey_cert.specs.Certificates.{certificate_of};
 ghost use Rattle.sshkey_cert.specs.Validity.{fingerprints_of};
 ghost use Rattle.openssh_limits.specs.Padding.{padding};
 ghost use Rattle.user_keys.specs.Answers.{GrantsExactly};
 ghost use Rattle.user_keys.specs.CertificateLogins.{FindsLine};
-ghost use Rattle.user_keys.specs.PrincipalLogins.{AdmitsPrincipal, ChecksTerms, FindsDecision, IsAsStrictInPlace, IsPrincipalLine, IsWhyNoPrincipal, IsWhyUndecided, NeedsMemoryInPlace, judged_in_place, login_in_place, principal_login};
-ghost use Rattle.user_keys.specs.Principals.{DecidesBy, MayDecideBy, is_principal, lines_at_feeds, names_principal};
+ghost use Rattle.user_keys.specs.Principals.{AdmitsPrincipal, ChecksTerms, FindsDecision, IsAsStrictInPlace, IsPrincipalLine, IsWhyNoPrincipal, IsWhyUndecided, NeedsMemoryInPlace, judged_in_place, login_in_place, principal_login, DecidesBy, MayDecideBy, is_principal, lines_at_feeds, names_principal};
 ghost use Rattle.user_keys.specs.UserLogins.{login_of};
 ghost use Rattle.user_keys.specs.declared.refusal.UserRefusal.TheVariants as refusal;
 

@@ -3,7 +3,7 @@
 ghost use Rattle.std.specs.List.{count_by};
 ghost use Rattle.std.specs.Prelude.{◌≡◌, ◌<◌, ◌≤◌, IfSome, length};
 ghost use Rattle.user_keys.specs.Principals.{is_feed};
-ghost use Rattle.user_keys.specs.Skips.{SkipsLines};
+ghost use Rattle.user_keys.specs.Spellings.{SkipsLines};
 
 use crate::marks::Marks;
 use memchr::memrchr;

@@ -3,8 +3,7 @@
 ghost use Rattle.std.specs.List.{before_first};
 ghost use Rattle.std.specs.Prelude.{◌≡◌, ◌==◌, not, position};
 ghost use Rattle.std.specs.Str.Lines.{strip_carriage_return};
-ghost use Rattle.sshkey_entries.specs.Fields.{without_blanks};
-ghost use Rattle.sshkey_entries.specs.OptionEnds.{is_blank};
+ghost use Rattle.sshkey_entries.specs.Fields.{without_blanks, is_blank};
 ghost use Rattle.user_keys.specs.Principals.{SplitsAt, SplitsLine, TakesLine};
 
 use memchr::memchr;

@@ -1,6 +1,6 @@
 //! The first byte of a constraint.
 
-ghost use Rattle.agent.specs.Constraints.{kind_from};
+ghost use Rattle.agent.specs.Records.{kind_from};
 
 use crate::kind::Kind;
 use crate::numbers::{CONSTRAIN_CONFIRM, CONSTRAIN_EXTENSION, CONSTRAIN_LIFETIME};

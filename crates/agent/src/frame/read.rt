@@ -6,7 +6,7 @@ ghost use Rattle.ssh_key.specs.base.Needs.{Asks};
 ghost use Rattle.ssh_key.specs.base.Nested.{nested_source};
 ghost use Rattle.ssh_key.specs.base.Reading.{Gives};
 ghost use Rattle.ssh_key.specs.base.Source.{Later};
-ghost use Rattle.agent.specs.Parts.{framed, message as contents};
+ghost use Rattle.agent.specs.Records.{framed, message as contents};
 
 use super::Framed;
 use crate::kind::decode_kind;

@@ -7,9 +7,8 @@ ghost use Rattle.sshkey_keys.specs.Keys.{stored_algorithm, key_of};
 ghost use Rattle.sshkey_keys.specs.Signatures.{signature_of};
 ghost use Rattle.sshkey_model.specs.Certificates.{IsCertificate, is_time, is_end, forever};
 ghost use Rattle.sshkey_model.specs.Keys.{IsKey, key_algorithm};
-ghost use Rattle.sshkey_cert_values.specs.CertTypes.{type_of};
-ghost use Rattle.sshkey_cert.specs.CertificateValues.{certificate_of, certified_key_of, comment_of, signer_of};
-ghost use Rattle.sshkey_cert_values.specs.OptionMaps.{options_of};
+ghost use Rattle.sshkey_cert_values.specs.CertificateFields.{type_of, options_of};
+ghost use Rattle.sshkey_cert.specs.Certificates.{certificate_of, certified_key_of, comment_of, signer_of};
 
 use super::Certificate;
 use sshkey_base::{Algorithm, Result};
@@ -45,7 +44,7 @@ impl Certificate {
     /// The certified key. It is well-formed in every certificate that was read; only
     /// `Certificate::sign` can make one with a key that is not: an opaque key whose name is that of
     /// another kind.
-    #[tactic(auto, using(crate::proofs::KeysOfCertificates::certified_key_is))]
+    #[tactic(auto, using(crate::proofs::Certificates::certified_key_is))]
     pub fn public_key(&self) -> &KeyData
         ensures value { key_of result.now ≡ (certificate_of self.now).signed.key }
         ensures well_formed { IsCertificate (certificate_of self.now) → IsKey (key_of result.now) }

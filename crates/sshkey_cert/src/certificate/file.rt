@@ -3,8 +3,7 @@
 ghost use Rattle.std.specs.Prelude.{IfOk};
 ghost use Rattle.sshkey_model.specs.Certificates.{normal_certificate};
 ghost use Rattle.sshkey_public.specs.PublicKeys.{WritesFile};
-ghost use Rattle.sshkey_cert.specs.CertificateValues.{certificate_of};
-ghost use Rattle.sshkey_cert.specs.Lines.{IsOfSomeLine};
+ghost use Rattle.sshkey_cert.specs.Certificates.{certificate_of, IsOfSomeLine};
 
 use super::Certificate;
 use sshkey_base::Result;

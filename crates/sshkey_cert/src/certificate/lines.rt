@@ -8,12 +8,10 @@ ghost use Rattle.sshkey_model.specs.Certificates.{Certificate as TheCertificate,
 ghost use Rattle.sshkey_model.specs.Keys.{key_algorithm};
 ghost use Rattle.sshkey_model.specs.Lines.{certificate_line, name_of_certificate};
 ghost use Rattle.sshkey_keys.specs.Keys.{key_of};
-ghost use Rattle.sshkey_public.specs.LineFaults.{RefusesLine};
-ghost use Rattle.sshkey_public.specs.LineNeeds.{AsksLine};
-ghost use Rattle.sshkey_public.specs.OneLine.{IsOneLine};
+ghost use Rattle.sshkey_public.specs.Lines.{RefusesLine, AsksLine};
+ghost use Rattle.sshkey_public.specs.WrittenLines.{IsOneLine};
 ghost use Rattle.sshkey_public.specs.PublicKeys.{MakesLine};
-ghost use Rattle.sshkey_cert.specs.CertificateValues.{certificate_of, comment_of};
-ghost use Rattle.sshkey_cert.specs.Lines.{ReadsCertificate};
+ghost use Rattle.sshkey_cert.specs.Certificates.{certificate_of, comment_of, ReadsCertificate};
 
 use super::Certificate;
 use sshkey_base::{Result, Text, Writer, encode_vec, encoding};
@@ -22,7 +20,7 @@ use sshkey_public::{Blob, make_line, makes_one_line, read_line};
 use std::alloc::Global;
 
 /// The name of the certified key's algorithm in certificates.
-#[tactic(auto, using(crate::proofs::CertificateReaders::certificates_stand))]
+#[tactic(auto, using(crate::proofs::Certificates::certificates_stand))]
 impl Blob for Certificate {
     ghost Value = { TheCertificate };
 

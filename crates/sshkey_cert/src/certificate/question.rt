@@ -3,8 +3,8 @@
 ghost use Rattle.std.specs.Prelude.{◌≡◌, IfErr, IfOk};
 ghost use Rattle.sshkey_base.specs.Causes.{NoMemory, cause};
 ghost use Rattle.sshkey_keys.specs.Questions.{asks};
-ghost use Rattle.sshkey_cert.specs.CertificateValues.{certificate_of};
-ghost use Rattle.sshkey_cert.specs.Questions.{certificate_question};
+ghost use Rattle.sshkey_cert.specs.Certificates.{certificate_of};
+ghost use Rattle.sshkey_cert.specs.Validity.{certificate_question};
 
 use super::Certificate;
 use sshkey_base::Result;

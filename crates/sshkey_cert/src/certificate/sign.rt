@@ -5,8 +5,8 @@ ghost use Rattle.sshkey_keys.specs.Blobs.{MakesBlob};
 ghost use Rattle.sshkey_keys.specs.Keys.{stored_algorithm};
 ghost use Rattle.sshkey_keys.specs.Signatures.{signature_of};
 ghost use Rattle.sshkey_model.specs.Certificates.{normal_to_be_signed};
-ghost use Rattle.sshkey_cert_values.specs.ToBeSignedValues.{to_be_signed_of};
-ghost use Rattle.sshkey_cert.specs.CertificateValues.{certificate_of, certified_key_of, comment_of, signer_of};
+ghost use Rattle.sshkey_cert_values.specs.CertificateFields.{to_be_signed_of};
+ghost use Rattle.sshkey_cert.specs.Certificates.{certificate_of, certified_key_of, comment_of, signer_of};
 ghost use Rattle.sshkey_cert.specs.Fitting.{signed_fits};
 ghost use Rattle.sshkey_cert.specs.Signing.{IsSignatureOf, PermitsToSign, RefusesExactly};
 

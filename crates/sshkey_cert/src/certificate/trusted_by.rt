@@ -5,7 +5,7 @@ ghost use Rattle.sshkey_base.specs.declared.error.Error.TheVariants as wide;
 ghost use Rattle.sshkey_keys.specs.Fingerprints.{IsShort};
 ghost use Rattle.sshkey_model.specs.Fingerprints.{Fingerprint as TheFingerprint};
 ghost use Rattle.sshkey_model.specs.Refusals.{first_refusal, first_refusal_for, has_trusted_authority};
-ghost use Rattle.sshkey_cert.specs.CertificateValues.{certificate_of};
+ghost use Rattle.sshkey_cert.specs.Certificates.{certificate_of};
 ghost use Rattle.sshkey_cert.specs.Validity.{FindsAuthority, FindsRefusal, fingerprints_of};
 
 use super::Certificate;

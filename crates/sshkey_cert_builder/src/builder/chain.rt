@@ -7,8 +7,7 @@
 ghost use Rattle.std.specs.Borrow.{sem};
 ghost use Rattle.std.specs.Prelude.{◌≡◌, string_bytes};
 ghost use Rattle.sshkey_model.specs.Drafts.{Serial, Kind, KeyId, Comment, Principal, AllPrincipals, Critical, Extension};
-ghost use Rattle.sshkey_cert_values.specs.CertTypes.{type_of};
-ghost use Rattle.sshkey_cert_values.specs.OptionMaps.{option_of};
+ghost use Rattle.sshkey_cert_values.specs.CertificateFields.{type_of, option_of};
 ghost use Rattle.sshkey_cert_builder.specs.Builders.{Chains, ChainsAlways, IsTheBuilder, StaysIfRefused, handed_back};
 
 use super::Builder;

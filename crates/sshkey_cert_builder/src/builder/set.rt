@@ -2,8 +2,7 @@
 
 ghost use Rattle.std.specs.Prelude.{◌≡◌, string_bytes};
 ghost use Rattle.sshkey_model.specs.Drafts.{Serial, Kind, KeyId, Comment, Principal, AllPrincipals, Critical, Extension};
-ghost use Rattle.sshkey_cert_values.specs.CertTypes.{type_of};
-ghost use Rattle.sshkey_cert_values.specs.OptionMaps.{option_of};
+ghost use Rattle.sshkey_cert_values.specs.CertificateFields.{type_of, option_of};
 ghost use Rattle.sshkey_cert_builder.specs.Builders.{TakesStep, TakesStepAlways, given_key};
 
 use super::Builder;
@@ -62,7 +61,7 @@ impl Builder {
 
     /// Adds a principal and fails as `valid_principal` does, and returns no reference. Reject names
     /// with a zero byte, as it says.
-    #[tactic(auto, using(crate::proofs::Principals::map_added))]
+    #[tactic(auto, using(crate::proofs::Drafts::map_added))]
     pub fn add_valid_principal(&mut self, principal: String) -> Result<()>
         ensures step { TakesStep (Principal (string_bytes principal)) self.old result self.new }
         ensures key { given_key self.new ≡ given_key self.old }

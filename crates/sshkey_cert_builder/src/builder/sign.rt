@@ -6,8 +6,8 @@ ghost use Rattle.sshkey_model.specs.Drafts.{IsSignedDraft, drafted, or_default};
 ghost use Rattle.sshkey_model.specs.Fingerprints.{fingerprint};
 ghost use Rattle.sshkey_model.specs.Names.{Sha256};
 ghost use Rattle.sshkey_cert_builder.specs.Builders.{IsValidExactlyIn, MaySignDraft, draft_of, given_key, no_principals};
-ghost use Rattle.sshkey_cert_values.specs.ToBeSignedValues.{to_be_signed_of};
-ghost use Rattle.sshkey_cert.specs.CertificateValues.{certificate_of, certified_key_of, comment_of};
+ghost use Rattle.sshkey_cert_values.specs.CertificateFields.{to_be_signed_of};
+ghost use Rattle.sshkey_cert.specs.Certificates.{certificate_of, certified_key_of, comment_of};
 ghost use Rattle.sshkey_cert.specs.Signing.{RefusesToSign};
 
 use super::Builder;

@@ -4,7 +4,7 @@ ghost use Rattle.std.specs.Prelude.{◌≡◌, List, true};
 ghost use Rattle.std.specs.Iterator.{YieldsFirstBy, item_count};
 ghost use Rattle.sshkey_model.specs.Options.{CertificateOption, option_at};
 ghost use Rattle.sshkey_model.specs.Reading.{list_whole};
-ghost use Rattle.sshkey_cert_ref.specs.OptionLists.{option_of, options_in};
+ghost use Rattle.sshkey_cert_ref.specs.Lists.{option_of, options_in};
 ghost use Rattle.sshkey_terms.specs.Slices.{is_taken};
 
 use super::{CertificateOptionsRef, first_option};

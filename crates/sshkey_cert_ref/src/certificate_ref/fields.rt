@@ -4,7 +4,7 @@ ghost use Rattle.std.specs.Prelude.{◌≡◌, ◌↔◌, IsTrue, true};
 ghost use Rattle.sshkey_model.specs.CertificateNames.{certificate_name};
 ghost use Rattle.sshkey_model.specs.Certificates.{is_time, is_end, forever};
 ghost use Rattle.sshkey_model.specs.Keys.{key_algorithm};
-ghost use Rattle.sshkey_cert_values.specs.CertTypes.{type_of};
+ghost use Rattle.sshkey_cert_values.specs.CertificateFields.{type_of};
 ghost use Rattle.sshkey_cert_ref.specs.Views.{texts_of, options_of, nestings_of};
 ghost use Rattle.sshkey_cert_ref.specs.CertificateRef.{certificate_of, choices_of};
 

@@ -1,8 +1,8 @@
 //! The keys and the signature of a certificate, as parts of its bytes.
 
 ghost use Rattle.std.specs.Prelude.{◌≡◌};
-ghost use Rattle.sshkey_keys_ref.specs.KeyDataRef.{key_bytes};
-ghost use Rattle.sshkey_keys_ref.specs.SignatureRef.{signature_bytes};
+ghost use Rattle.sshkey_keys_ref.specs.Keys.{key_bytes};
+ghost use Rattle.sshkey_keys_ref.specs.Signatures.{signature_bytes};
 ghost use Rattle.sshkey_model.specs.Keys.{body, key, SpellsKey};
 ghost use Rattle.sshkey_model.specs.Parts.{flat};
 ghost use Rattle.sshkey_model.specs.Signatures.{signature, SpellsSignature};

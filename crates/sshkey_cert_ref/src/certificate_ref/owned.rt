@@ -2,7 +2,7 @@
 
 ghost use Rattle.std.specs.Prelude.{◌≡◌, ◌||◌, [], IfOk, IfErr, IsOk, IsTrue};
 ghost use Rattle.sshkey_base.specs.Causes.{NoMemory, cause};
-ghost use Rattle.sshkey_cert.specs.CertificateValues.{certificate_of as owned_certificate_of, comment_of};
+ghost use Rattle.sshkey_cert.specs.Certificates.{certificate_of as owned_certificate_of, comment_of};
 ghost use Rattle.sshkey_keys.specs.KeyKinds.{is_ecdsa, is_ed25519};
 ghost use Rattle.sshkey_keys.specs.Keys.{key_of};
 ghost use Rattle.sshkey_keys.specs.Signatures.{signature_of};

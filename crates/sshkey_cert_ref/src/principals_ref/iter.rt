@@ -4,7 +4,7 @@ ghost use Rattle.std.specs.Prelude.{◌≡◌, ℕ, List, true};
 ghost use Rattle.std.specs.Iterator.{YieldsFirstRef, item_count};
 ghost use Rattle.sshkey_model.specs.Texts.{text_list_at};
 ghost use Rattle.sshkey_terms.specs.Slices.{is_taken};
-ghost use Rattle.sshkey_cert_ref.specs.TextLists.{texts_in};
+ghost use Rattle.sshkey_cert_ref.specs.Lists.{texts_in};
 
 use super::{PrincipalsRef, first_text};
 use std::marker::Model;

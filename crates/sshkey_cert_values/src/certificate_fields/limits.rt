@@ -7,8 +7,7 @@ ghost use Rattle.sshkey_model.specs.Leaves.{string_format};
 ghost use Rattle.sshkey_model.specs.Terms.{◌then◌, boxed};
 ghost use Rattle.sshkey_keys.specs.Keys.{key_of};
 ghost use Rattle.sshkey_model.specs.Certificates.{time_format, end_format};
-ghost use Rattle.sshkey_cert_values.specs.OptionMaps.{options_of};
-ghost use Rattle.sshkey_cert_values.specs.Times.{time_of, end_of};
+ghost use Rattle.sshkey_cert_values.specs.CertificateFields.{options_of, time_of, end_of};
 
 use crate::{EndTime, OptionsMap, UnixTime};
 use sshkey_base::{Bytes, Decode, Error, Reader, Result};

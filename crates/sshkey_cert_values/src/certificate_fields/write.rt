@@ -2,8 +2,7 @@
 
 ghost use Rattle.std.specs.Prelude.{◌≤◌, ◌+◌, ◌*◌, ◌^◌, ◌<◌, IfOk};
 ghost use Rattle.sshkey_base.specs.Sink.{Encodes, Measures};
-ghost use Rattle.sshkey_cert_values.specs.ToBeSignedParts.{grant_parts, names_parts, limits_parts, authority_parts};
-ghost use Rattle.sshkey_cert_values.specs.ToBeSignedValues.{to_be_signed_of};
+ghost use Rattle.sshkey_cert_values.specs.CertificateFields.{grant_parts, names_parts, limits_parts, authority_parts, to_be_signed_of};
 
 use super::CertificateFields;
 use sshkey_base::{Encode, Writer, encoding};

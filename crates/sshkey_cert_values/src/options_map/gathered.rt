@@ -2,8 +2,7 @@
 
 ghost use Rattle.std.specs.Prelude.{◌≡◌, ◌∷◌, ◌++◌, [], true, map, option_map, string_bytes, IfOk, OnOk, IfErr, IsOk};
 ghost use Rattle.sshkey_model.specs.Options.{may_follow};
-ghost use Rattle.sshkey_cert_values.specs.OptionMaps.{option_of, options_of, name_at_end, NamesRise};
-ghost use Rattle.sshkey_cert_values.specs.GatheredPairs.{gathered_pairs};
+ghost use Rattle.sshkey_cert_values.specs.CertificateFields.{option_of, options_of, name_at_end, NamesRise, gathered_pairs};
 
 use super::OptionsMap;
 use sshkey_base::{Error, Result};

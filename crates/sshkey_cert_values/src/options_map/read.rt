@@ -12,7 +12,7 @@ ghost use Rattle.sshkey_base.specs.Stops.{StopsPast, StopsToEnd};
 ghost use Rattle.sshkey_model.specs.Overruns.{OverrunsString};
 ghost use Rattle.sshkey_model.specs.Options.{may_follow, option_format, option_list_format, value_format};
 ghost use Rattle.sshkey_model.specs.Terms.{boxed, needing};
-ghost use Rattle.sshkey_cert_values.specs.OptionMaps.{option_of, options_of};
+ghost use Rattle.sshkey_cert_values.specs.CertificateFields.{option_of, options_of};
 
 use super::OptionsMap;
 use super::gathered::Gathered;

@@ -5,7 +5,7 @@ ghost use Rattle.sshkey_model.specs.Options.{option, option_value, Plain};
 ghost use Rattle.sshkey_model.specs.Parts.{each};
 ghost use Rattle.sshkey_base.specs.Sink.{Encodes, MeasuresBoxed};
 ghost use Rattle.sshkey_model.specs.Options.{plain_option};
-ghost use Rattle.sshkey_cert_values.specs.OptionMaps.{options_of};
+ghost use Rattle.sshkey_cert_values.specs.CertificateFields.{options_of};
 
 use super::OptionsMap;
 use sshkey_base::{Encode, Writer, encode_string, encoding, string_len, u32_of};

@@ -1,7 +1,7 @@
 //! Which kind of pair a pair is.
 
 ghost use Rattle.std.specs.Prelude.{◌≡◌, false, MatchOption};
-ghost use Rattle.sshkey_pairs.specs.PairKinds.{is_dsa, is_ecdsa, is_ed25519, is_encrypted, is_rsa, is_sk_ecdsa, is_sk_ed25519, is_opaque};
+ghost use Rattle.sshkey_pairs.specs.Keypairs.{is_dsa, is_ecdsa, is_ed25519, is_encrypted, is_rsa, is_sk_ecdsa, is_sk_ed25519, is_opaque};
 
 use super::KeypairData;
 use crate::opaque::OpaqueKeypair;

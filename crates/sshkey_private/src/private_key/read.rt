@@ -15,11 +15,9 @@ ghost use Rattle.sshkey_model.specs.KeyDerivation.{Kdf as TheKdf, NoCipher, bloc
 ghost use Rattle.sshkey_model.specs.Keys.{Key};
 ghost use Rattle.sshkey_model.specs.Reading.{whole};
 ghost use Rattle.sshkey_ciphers.specs.Ciphers.{cipher_of, kdf_of};
-ghost use Rattle.sshkey_ciphers.specs.Ciphertexts.{sealed_format, tag_bytes};
-ghost use Rattle.sshkey_private.specs.Halves.{is_half};
-ghost use Rattle.sshkey_private.specs.Inner.{inner_of, part_format};
-ghost use Rattle.sshkey_private.specs.PrivateKeyFormats.{NeedsContent, NeedsPrivateKey, OverrunsContent, OverrunsPrivateKey, key_of_part, steps_at, sealed_with, unencrypted_below, unencrypted_format, last_content_at, last_encrypted_at};
-ghost use Rattle.sshkey_private.specs.PrivateKeyGrammars.{delimited_by};
+ghost use Rattle.sshkey_ciphers.specs.Formats.{sealed_format, tag_bytes};
+ghost use Rattle.sshkey_private.specs.PrivateParts.{is_half, inner_of, part_format};
+ghost use Rattle.sshkey_private.specs.PrivateKeyFormats.{NeedsContent, NeedsPrivateKey, OverrunsContent, OverrunsPrivateKey, key_of_part, steps_at, sealed_with, unencrypted_below, unencrypted_format, last_content_at, last_encrypted_at, delimited_by};
 ghost use Rattle.sshkey_private.specs.PrivateKeys.{private_of, is_encrypted, outer_of, HasWrittenComment};
 ghost use Rattle.sshkey_public.specs.PublicKeys.{comment_of};
 

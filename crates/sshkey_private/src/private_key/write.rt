@@ -3,10 +3,9 @@
 ghost use Rattle.std.specs.Prelude.{◌≡◌, ◌+◌, ◌*◌, ◌^◌, IfOk, ◌<◌};
 ghost use Rattle.sshkey_base.specs.Sink.{Encodes, Measures};
 ghost use Rattle.sshkey_model.specs.PrivateKeys.{normal_private_key, padded};
-ghost use Rattle.sshkey_ciphers.specs.Ciphertexts.{tag_bytes};
-ghost use Rattle.sshkey_private.specs.PrivateKeys.{private_of, outer_of};
+ghost use Rattle.sshkey_ciphers.specs.Formats.{tag_bytes};
+ghost use Rattle.sshkey_private.specs.PrivateKeys.{private_of, outer_of, part_parts, content_parts, halves_parts, key_parts};
 ghost use Rattle.sshkey_public.specs.PublicKeys.{comment_of};
-ghost use Rattle.sshkey_private.specs.Written.{part_parts, content_parts, halves_parts, key_parts};
 
 use super::PrivateKey;
 use crate::opening::MAGIC;
@@ -160,7 +159,7 @@ impl Encode for Part<'_> {
 struct Padded<'a>(Part<'a>);
 
 /// The part and its padding.
-#[tactic(auto, using(sshkey_base::proofs::Writing::measuring, sshkey_base::proofs::Writing::measuring_leaves, crate::proofs::WrittenKeys::padding_len))]
+#[tactic(auto, using(sshkey_base::proofs::Writing::measuring, sshkey_base::proofs::Writing::measuring_leaves, crate::proofs::KeyForms::padding_len))]
 impl Encode for Padded<'_> {
     ghost normal = { λ p. padded (part_parts p.0) };
 

@@ -3,7 +3,7 @@ use Rattle.ssh_key.specs.model.Leaves.{number32_format, string_format}
 use Rattle.ssh_key.specs.model.Texts.{text_format}
 use Rattle.ssh_key.specs.model.Terms.{◌then◌}
 use Rattle.ssh_key.proofs.Places.{later_none}
-use Rattle.agent.specs.Constraints.{Confirm, Extension, Lifetime, constraint_of}
+use Rattle.agent.specs.Records.{Confirm, Extension, Lifetime, constraint_of}
 use Rattle.agent.specs.declared.constraint.Constraint.TheVariants as constraints
 use Rattle.agent.proofs.Frames.{held_reads, held_refused, nothing_reads}
 use Rattle.agent.proofs.constraint.constraint_from.Goals as goal

@@ -1,7 +1,6 @@
 use Rattle.std.proofs.Common.{[], codes, refl, ap, arith}
-use Rattle.sshkey_entries.specs.Fronts.{without_front}
-use Rattle.allowed_signers.specs.AllowedSigners.{OptionsPermit}
-use Rattle.allowed_signers.specs.SignerOptions.{no_terms}
+use Rattle.sshkey_entries.specs.Fields.{without_front}
+use Rattle.allowed_signers.specs.AllowedSigners.{OptionsPermit, no_terms}
 use Rattle.allowed_signers.proofs.ExampleLemmas.{first_byte, without}
 use Rattle.allowed_signers.proofs.examples.entries.Goals as goal
 

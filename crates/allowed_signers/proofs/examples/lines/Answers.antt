@@ -1,6 +1,6 @@
 use Rattle.std.proofs.Common.{[], ◌∷◌, ◌++◌, codes, inr, refl, subst, arith}
 use Rattle.sshkey_model.specs.Lines.{IsWithout}
-use Rattle.sshkey_matching.specs.Commas.{patterns}
+use Rattle.sshkey_matching.specs.Patterns.{patterns}
 use Rattle.allowed_signers.proofs.ExampleLemmas.{field, its_principals, nobody}
 use Rattle.allowed_signers.proofs.examples.lines.Goals as goal
 

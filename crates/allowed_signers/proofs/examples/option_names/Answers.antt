@@ -1,5 +1,5 @@
 use Rattle.std.proofs.Common.{codes, inl, inr, refl}
-use Rattle.allowed_signers.specs.SignerOptions.{words}
+use Rattle.allowed_signers.specs.AllowedSigners.{words}
 use Rattle.allowed_signers.proofs.ExampleLemmas.{no_name, other_name}
 use Rattle.allowed_signers.proofs.examples.option_names.Goals as goal
 

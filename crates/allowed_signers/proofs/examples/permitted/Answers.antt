@@ -1,5 +1,5 @@
 use Rattle.std.proofs.Common.{codes, refl, sym, arith}
-use Rattle.sshkey_matching.specs.Commas.{patterns}
+use Rattle.sshkey_matching.specs.Patterns.{patterns}
 use Rattle.sshkey_matching.proofs.PatternTests.{decides_list}
 use Rattle.allowed_signers.proofs.ExampleLemmas.{never}
 use Rattle.allowed_signers.proofs.examples.permitted.Goals as goal

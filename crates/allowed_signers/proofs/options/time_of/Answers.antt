@@ -1,8 +1,8 @@
 use Rattle.std.proofs.Common.{◌≡◌, ◌∙◌, Global, List, None, Option, Some, ap, subst, sym, ℕ}
 use Rattle.std.specs.Prelude.{String, option_map, string_bytes}
-use Rattle.sshkey_entries.specs.Readings.{IsTheOne}
+use Rattle.sshkey_entries.specs.Answers.{IsTheOne}
 use Rattle.sshkey_matching.specs.Times.{ReadsTime}
-use Rattle.allowed_signers.specs.SignerOptions.{IsTimeValue}
+use Rattle.allowed_signers.specs.AllowedSigners.{IsTimeValue}
 use Rattle.sshkey_matching.specs.declared.times.Span.{Span}
 use Rattle.allowed_signers.proofs.options.time_of.Goals as goal
 

@@ -2,7 +2,7 @@ use Rattle.std.proofs.Common.{◌≡◌, List, subst, sym, true, ℕ}
 use Rattle.std.specs.List.{Any}
 use Rattle.sshkey_keys.specs.Keys.{key_of}
 use Rattle.allowed_signers.specs.AllowedSigners.{AllowsSigner}
-use Rattle.allowed_signers.proofs.SomeLine.{later, not_first}
+use Rattle.allowed_signers.proofs.Decisions.{later, not_first}
 use Rattle.allowed_signers.proofs.signers.is_allowed.Goals as goal
 
 pub loop-line-preserved : goal.loop-line-preserved

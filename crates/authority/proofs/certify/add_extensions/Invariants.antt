@@ -3,7 +3,7 @@ use Rattle.std.specs.Prelude.{string_bytes}
 use Rattle.std.specs.Vec.Iter.{into_iter_items}
 use Rattle.ssh_key.specs.cert_builder.Builders.{draft_of}
 use Rattle.ssh_key.specs.model.Drafts.{after_steps}
-use Rattle.authority.specs.Requests.{added}
+use Rattle.authority.specs.Issuance.{added}
 use Rattle.authority.proofs.certify.add_extensions.Given as goal
 
 -- the steps that are left lead to the same draft

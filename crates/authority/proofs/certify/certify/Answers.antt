@@ -1,6 +1,6 @@
 use Rattle.std.proofs.lemmas.Result.{err_from_is_err_and}
 use Rattle.ssh_key.specs.keys.Keys.{key_of}
-use Rattle.authority.specs.Requests.{extensions_of}
+use Rattle.authority.specs.Issuance.{extensions_of}
 use Rattle.authority.proofs.Certified.{certified, key_id_is_taken, no_bad_window, permitted, serial_is_taken}
 use Rattle.authority.proofs.Drafts.{numbered, told}
 use Rattle.authority.proofs.certify.certify.Goals as goal

@@ -1,5 +1,5 @@
 use Rattle.std.proofs.Common.{◌≡◌, drop}
-use Rattle.callers.specs.Hashed.{hash_among}
+use Rattle.callers.specs.Answers.{hash_among}
 use Rattle.callers.proofs.hashes.hash_among.Given as goal
 
 -- those that are left decide

@@ -1,7 +1,7 @@
 use Rattle.std.proofs.Common.{sym, ◌∙◌}
-use Rattle.sshkey_cert.specs.CertificateValues.{certificate_of}
+use Rattle.sshkey_cert.specs.Certificates.{certificate_of}
 use Rattle.host_keys.specs.Hosts.{lines_of, login_of}
-use Rattle.host_keys.proofs.CertifiedKeys.{asks_both, by_key, final, not_final_memory, unknown, unknown_for_good}
+use Rattle.host_keys.proofs.Certificates.{asks_both, by_key, final, not_final_memory, unknown, unknown_for_good}
 use Rattle.host_keys.proofs.certificate.check_asked_certificate.Goals as goal
 
 pub returns-then-is_final : goal.returns-then-is_final

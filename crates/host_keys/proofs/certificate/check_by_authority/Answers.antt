@@ -1,12 +1,11 @@
 use Rattle.std.proofs.Common.{sym, subst, true≢false, ◌∙◌}
 use Rattle.std.proofs.lemmas.Result.{err_from_is_err_and}
-use Rattle.sshkey_cert.specs.CertificateValues.{certificate_of}
+use Rattle.sshkey_cert.specs.Certificates.{certificate_of}
 use Rattle.sshkey_krl.specs.Revocations.{is_certificate_revoked}
 use Rattle.host_keys.specs.Answers.{AsksOf}
 use Rattle.host_keys.specs.Hosts.{IsBadFor, IsGoodFor, IsSaidOfSigned, IsTrustedCertificate, lines_of, login_of, plain_name}
 use Rattle.host_keys.proofs.Certificates.{accepted_as}
-use Rattle.host_keys.proofs.Said.{as_much, asks_of, why_bad}
-use Rattle.host_keys.proofs.Signed.{judged, why_judged}
+use Rattle.host_keys.proofs.HostKeys.{as_much, asks_of, why_bad, judged, why_judged}
 use Rattle.host_keys.proofs.certificate.check_by_authority.Goals as goal
 
 pub returns-in_err-answer : goal.returns-in_err-answer

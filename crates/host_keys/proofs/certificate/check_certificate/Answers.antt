@@ -1,18 +1,18 @@
 use Rattle.std.proofs.Common.{◌≡◌, ◌≢◌, ◌⊎◌, ℕ, Bool, IfErr, List, [], Result, Ok, Err, true, ap, inl, inr, refl, subst, sym, ◌∙◌}
-use Rattle.sshkey_cert.specs.CertificateValues.{certificate_of}
+use Rattle.sshkey_cert.specs.Certificates.{certificate_of}
 use Rattle.sshkey_krl.specs.Revocation.{CertificateIdentity}
 use Rattle.sshkey_model.specs.Certificates.{Certificate, SpellsCertificate, normal_certificate, certificate_format}
 use Rattle.sshkey_model.specs.Parts.{flat}
 use Rattle.sshkey_model.specs.Verification.{Question}
 use Rattle.sshkey_base.proofs.Acceptance.{other_cause}
-use Rattle.sshkey_matching.specs.Likeness.{is_like_address}
+use Rattle.sshkey_matching.specs.FromLists.{is_like_address}
 use Rattle.openssh_limits.specs.Padding.{padding}
 use Rattle.host_keys.specs.Answers.{IsWhyUnknown, RefusesAsked, RefusesHostCertificate}
 use Rattle.host_keys.specs.Hosts.{HostCheck, IsHostCertificate, IsKnownBy, OfAsked, lines_of, login_of}
 use Rattle.host_keys.specs.declared.known_by.KnownBy.{KnownBy}
 use Rattle.host_keys.specs.declared.refusal.HostRefusal.{HostRefusal}
 use Rattle.host_keys.specs.declared.refusal.HostRefusal.TheVariants as refusal
-use Rattle.host_keys.proofs.Said.{asks_more, known_as, other_of}
+use Rattle.host_keys.proofs.HostKeys.{asks_more, known_as, other_of}
 use Rattle.host_keys.proofs.certificate.check_certificate.Goals as goal
 
 pub returns-in-Err-clause-exactly : goal.returns-in-Err-clause-exactly

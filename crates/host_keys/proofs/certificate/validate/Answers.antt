@@ -1,5 +1,5 @@
 use Rattle.std.proofs.Common.{◌≡◌, Some, None, Ok, refl, subst, sym}
-use Rattle.sshkey_cert.specs.CertificateValues.{certificate_of}
+use Rattle.sshkey_cert.specs.Certificates.{certificate_of}
 use Rattle.sshkey_cert.specs.Validity.{FindsRefusal, refusal_of}
 use Rattle.sshkey_model.specs.Refusals.{first_refusal_for}
 use Rattle.host_keys.specs.Answers.{OkExactly}

@@ -1,11 +1,11 @@
 use Rattle.std.proofs.Common.{refl, subst, sym}
 use Rattle.std.proofs.lemmas.Result.{err_from_is_err_and}
-use Rattle.sshkey_cert.specs.CertificateValues.{certificate_of}
+use Rattle.sshkey_cert.specs.Certificates.{certificate_of}
 use Rattle.sshkey_cert.specs.Validity.{IsSigned}
 use Rattle.host_keys.specs.Answers.{NotRead}
 use Rattle.host_keys.specs.Hosts.{HasTrustedKey, IsTrustedKey, lines_of, login_of}
-use Rattle.host_keys.proofs.CertifiedKeys.{asks_some, other_key, some_line, unread_other, why_unsigned}
-use Rattle.host_keys.proofs.Said.{as_much}
+use Rattle.host_keys.proofs.Certificates.{asks_some, other_key, some_line, unread_other, why_unsigned}
+use Rattle.host_keys.proofs.HostKeys.{as_much}
 use Rattle.host_keys.proofs.certified_key.check_certified_key.Goals as goal
 
 pub returns-in_err-check_read : goal.returns-in_err-check_read

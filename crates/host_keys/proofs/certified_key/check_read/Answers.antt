@@ -1,5 +1,5 @@
 use Rattle.std.proofs.Common.{◌≡◌, true, refl, ap, sym, true≢false, ◌∙◌}
-use Rattle.openssh_limits.specs.Keys.{openssh_accepts_key}
+use Rattle.openssh_limits.specs.Limits.{openssh_accepts_key}
 use Rattle.sshkey_model.specs.Keys.{Key}
 use Rattle.host_keys.specs.Hosts.{OddKeyId, OddPrincipals, OtherSigner}
 use Rattle.host_keys.proofs.certified_key.check_read.Goals as goal

@@ -1,6 +1,6 @@
 use Rattle.std.proofs.Common.{◌≡◌, [], ◌∷◌, None, Some, codes, inl, inr, refl, sym, arith, lit<}
 use Rattle.std.specs.Int.Count.{count_leading_zeros}
-use Rattle.openssh_limits.specs.Read.{AreReadPrincipals}
+use Rattle.openssh_limits.specs.Limits.{AreReadPrincipals}
 use Rattle.sshkey_entries.specs.KnownHosts.{Revoked}
 use Rattle.sshkey_model.specs.CertificateExamples.{authority}
 use Rattle.sshkey_model.specs.Certificates.{User}

@@ -1,5 +1,5 @@
 use Rattle.std.proofs.Common.{[], codes, arith, refl}
-use Rattle.sshkey_entries.specs.HostNames.{known_name}
+use Rattle.sshkey_entries.specs.HostVerdicts.{known_name}
 use Rattle.sshkey_model.specs.KeyExamples.{ed25519_key}
 use Rattle.sshkey_known_hosts.specs.Hmac.{hmac_sha1}
 use Rattle.sshkey_known_hosts.proofs.ExampleLemmas.{said_of_host}

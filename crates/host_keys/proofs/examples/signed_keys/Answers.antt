@@ -2,7 +2,7 @@ use Rattle.std.proofs.Common.{◌⊎◌, [], Some, codes, inl, inr, refl, arith}
 use Rattle.sshkey_entries.specs.KnownHosts.{CertAuthority, Revoked}
 use Rattle.sshkey_model.specs.CertificateExamples.{authority}
 use Rattle.sshkey_model.specs.KeyExamples.{ed25519_key}
-use Rattle.sshkey_matching.specs.Commas.{patterns}
+use Rattle.sshkey_matching.specs.Patterns.{patterns}
 use Rattle.sshkey_known_hosts.specs.Examples.{broken_line, by_line, host, line}
 use Rattle.sshkey_known_hosts.specs.Hmac.{hmac_sha1}
 use Rattle.sshkey_known_hosts.specs.declared.verdict.Verdict.TheVariants as verdict

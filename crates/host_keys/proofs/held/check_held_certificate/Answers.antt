@@ -3,11 +3,10 @@ use Rattle.std.proofs.Common.{◌≡◌, ◌≢◌, ◌∙◌, IfErr, List, ℕ,
 use Rattle.std.proofs.lemmas.Result.{err_from_is_err_and}
 use Rattle.openssh_limits.specs.Padding.{padding}
 use Rattle.host_keys.specs.Answers.{KnownExactly, RefusesHostCertificate}
-use Rattle.host_keys.specs.HeldHosts.{held_login}
-use Rattle.host_keys.specs.Hosts.{HostCheck, IsHostCertificate, lines_of, login_of}
+use Rattle.host_keys.specs.Hosts.{held_login, HostCheck, IsHostCertificate, lines_of, login_of}
 use Rattle.host_keys.specs.declared.refusal.HostRefusal.{HostRefusal}
 use Rattle.host_keys.specs.declared.refusal.HostRefusal.TheVariants as refusal
-use Rattle.host_keys.proofs.Said.{known_as}
+use Rattle.host_keys.proofs.HostKeys.{known_as}
 use Rattle.host_keys.proofs.SameAnswers.{host_from, host_to, refuses_certificate}
 use Rattle.host_keys.proofs.held.check_held_certificate.Goals as goal
 

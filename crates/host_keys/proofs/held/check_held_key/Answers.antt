@@ -3,9 +3,8 @@ use Rattle.std.proofs.Common.{◌≡◌, ◌∙◌, IfErr, List, ℕ, ap, subst}
 use Rattle.std.proofs.lemmas.Result.{err_from_is_err_and}
 use Rattle.sshkey_keys.specs.Keys.{key_of}
 use Rattle.host_keys.specs.Answers.{OkExactly, RefusesHostKey}
-use Rattle.host_keys.specs.HeldHosts.{held_login}
-use Rattle.host_keys.specs.Hosts.{HostCheck, IsHostKey, lines_of, login_of}
-use Rattle.host_keys.proofs.Said.{as_much}
+use Rattle.host_keys.specs.Hosts.{held_login, HostCheck, IsHostKey, lines_of, login_of}
+use Rattle.host_keys.proofs.HostKeys.{as_much}
 use Rattle.host_keys.proofs.SameAnswers.{host_key_from, host_key_to, key_memory, refuses_key}
 use Rattle.host_keys.proofs.held.check_held_key.Goals as goal
 

@@ -1,6 +1,6 @@
 use Rattle.std.proofs.Common.{◌≡◌, ℕ, IfErr, Result, false, List, subst, sym, true≢false, ◌∙◌}
 use Rattle.std.proofs.lemmas.Result.{err_from_is_err_and}
-use Rattle.openssh_limits.specs.Keys.{openssh_accepts_key}
+use Rattle.openssh_limits.specs.Limits.{openssh_accepts_key}
 use Rattle.sshkey_keys.specs.Keys.{key_of}
 use Rattle.sshkey_known_hosts.specs.Verdicts.{IsVerdict}
 use Rattle.sshkey_krl.specs.Revocations.{is_key_revoked}
@@ -8,7 +8,7 @@ use Rattle.sshkey_known_hosts.specs.declared.verdict.Verdict.TheVariants.{Truste
 use Rattle.host_keys.specs.Answers.{AsksOf, IsWhy, OkExactly}
 use Rattle.host_keys.specs.Hosts.{IsSaidOfKey, IsTrustedKey, lines_of, login_of}
 use Rattle.host_keys.specs.declared.refusal.HostRefusal.{HostRefusal}
-use Rattle.host_keys.proofs.Said.{asks_of, exactly, one_said, why}
+use Rattle.host_keys.proofs.HostKeys.{asks_of, exactly, one_said, why}
 use Rattle.host_keys.proofs.key.check_asked.Goals as goal
 
 pub returns-in_err-answer : goal.returns-in_err-answer

@@ -1,12 +1,11 @@
 use Rattle.std.proofs.Common.{◌≡◌, ℕ, true, IfErr, List, ap, inl, subst, sym}
 use Rattle.std.proofs.lemmas.Result.{err_from_is_err_and}
 use Rattle.sshkey_matching.specs.AskedHosts.{IsAsked}
-use Rattle.sshkey_matching.specs.Likeness.{is_like_address}
+use Rattle.sshkey_matching.specs.FromLists.{is_like_address}
 use Rattle.sshkey_keys.specs.Keys.{key_of}
 use Rattle.host_keys.specs.Answers.{AsksOf, IsWhyNoKey, OkExactly}
 use Rattle.host_keys.specs.Hosts.{HostCheck, IsTrustedKey, login_of}
-use Rattle.host_keys.proofs.AskedNames.{exactly_asked, needs_name, none_asked, why_asked}
-use Rattle.host_keys.proofs.Said.{asks_more}
+use Rattle.host_keys.proofs.HostKeys.{exactly_asked, needs_name, none_asked, why_asked, asks_more}
 use Rattle.host_keys.proofs.key.check_key.Goals as goal
 
 pub returns-in_err-asked : goal.returns-in_err-asked

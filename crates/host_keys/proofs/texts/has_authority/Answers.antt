@@ -1,7 +1,6 @@
 use Rattle.std.proofs.Common.{◌≡◌, Some, true, refl, subst, sym}
 use Rattle.std.specs.List.{Any}
-use Rattle.sshkey_entries.specs.HostNames.{known_name}
-use Rattle.sshkey_entries.specs.HostVerdicts.{Lists}
+use Rattle.sshkey_entries.specs.HostVerdicts.{known_name, Lists}
 use Rattle.sshkey_entries.specs.KnownHosts.{CertAuthority}
 use Rattle.sshkey_keys.specs.Keys.{key_of}
 use Rattle.sshkey_public.specs.PublicKeys.{public_of}

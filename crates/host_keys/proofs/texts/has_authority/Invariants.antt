@@ -1,6 +1,5 @@
 use Rattle.std.proofs.Common.{take}
-use Rattle.sshkey_entries.specs.HostNames.{known_name}
-use Rattle.sshkey_entries.specs.HostVerdicts.{IsAuthority}
+use Rattle.sshkey_entries.specs.HostVerdicts.{known_name, IsAuthority}
 use Rattle.sshkey_keys.specs.Keys.{key_of}
 use Rattle.host_keys.specs.Hosts.{lines_of}
 use Rattle.host_keys.proofs.texts.has_authority.Given as goal

@@ -2,7 +2,7 @@ use Rattle.std.proofs.Common.{◌≡◌, ap, sym, ◌∙◌}
 use Rattle.sshkey_keys.specs.Keys.{key_of}
 use Rattle.sshkey_public.specs.PublicKeys.{public_of}
 use Rattle.sshkey_public.specs.declared.public_key.PublicKey.{PublicKey}
-use Rattle.host_keys.proofs.Listed.{none_more, none_of}
+use Rattle.host_keys.proofs.SeveralTexts.{none_more, none_of}
 use Rattle.host_keys.proofs.texts.has_key.Goals as goal
 
 pub loop-listed-preserved : goal.loop-listed-preserved

@@ -1,8 +1,8 @@
 use Rattle.std.proofs.Common.{◌≡◌, true, sym, ◌∙◌}
-use Rattle.sshkey_entries.specs.HostNames.{known_name}
+use Rattle.sshkey_entries.specs.HostVerdicts.{known_name}
 use Rattle.sshkey_keys.specs.Keys.{key_of}
 use Rattle.host_keys.specs.Hosts.{lines_of}
-use Rattle.host_keys.proofs.Signed.{trusted, unknown, unreadable}
+use Rattle.host_keys.proofs.HostKeys.{trusted, unknown, unreadable}
 use Rattle.host_keys.proofs.verdict.check_signed.Goals as goal
 
 pub returns-then-is_unreadable-clause-answer : goal.returns-then-is_unreadable-clause-answer

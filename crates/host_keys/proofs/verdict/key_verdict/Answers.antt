@@ -2,7 +2,7 @@ use Rattle.std.proofs.Common.{ℕ, List}
 use Rattle.sshkey_keys.specs.Keys.{key_of}
 use Rattle.sshkey_known_hosts.specs.Verdicts.{IsVerdict}
 use Rattle.host_keys.specs.Hosts.{lines_of}
-use Rattle.host_keys.proofs.Said.{settled}
+use Rattle.host_keys.proofs.HostKeys.{settled}
 use Rattle.host_keys.proofs.verdict.key_verdict.Goals as goal
 
 pub returns-then-is_settled-clause-answer : goal.returns-then-is_settled-clause-answer

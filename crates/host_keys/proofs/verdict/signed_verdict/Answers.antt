@@ -1,7 +1,7 @@
 use Rattle.std.proofs.Common.{ℕ, List}
 use Rattle.sshkey_keys.specs.Keys.{key_of}
 use Rattle.host_keys.specs.Hosts.{IsVerdictOfSigned, lines_of}
-use Rattle.host_keys.proofs.Said.{settled}
+use Rattle.host_keys.proofs.HostKeys.{settled}
 use Rattle.host_keys.proofs.verdict.signed_verdict.Goals as goal
 
 pub returns-then-is_settled-clause-answer : goal.returns-then-is_settled-clause-answer

@@ -1,5 +1,5 @@
 use Rattle.std.proofs.Common.{refl}
-use Rattle.sshkey_cert.specs.CertificateValues.{certificate_of}
+use Rattle.sshkey_cert.specs.Certificates.{certificate_of}
 use Rattle.login_policy.proofs.Logins.{allows_is}
 use Rattle.login_policy.proofs.authority.refusal_of_time_or_user.Goals as goal
 

@@ -1,9 +1,8 @@
 use Rattle.std.proofs.Common.{[], sym, refl, arith, lit<}
 use Rattle.std.proofs.lemmas.List.Elements.{All-nil}
-use Rattle.login_policy.specs.Examples.{fields, login}
+use Rattle.login_policy.specs.Examples.{fields, login, forged}
 use Rattle.login_policy.specs.KnownOptions.{IsKnownOption}
-use Rattle.login_policy.specs.PendingExamples.{forged}
-use Rattle.login_policy.specs.Pendings.{unasked}
+use Rattle.login_policy.specs.Logins.{unasked}
 use Rattle.login_policy.proofs.ExampleLemmas.{let_in, never, right, two_names, valid}
 use Rattle.login_policy.proofs.examples.pendings.Goals as goal
 

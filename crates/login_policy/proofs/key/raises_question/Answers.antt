@@ -1,5 +1,5 @@
 use Rattle.std.proofs.Common.{◌∙◌}
-use Rattle.sshkey_cert.specs.CertificateValues.{certificate_of}
+use Rattle.sshkey_cert.specs.Certificates.{certificate_of}
 use Rattle.sshkey_keys.specs.Questions.{question_of}
 use Rattle.login_policy.proofs.Pendings.{raised}
 use Rattle.login_policy.proofs.key.raises_question.Goals as goal

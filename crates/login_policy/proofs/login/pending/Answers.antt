@@ -1,7 +1,7 @@
 use Rattle.std.proofs.Common.{inl, refl}
 use Rattle.std.proofs.lemmas.Result.{err_from_is_err_and}
 use Rattle.sshkey_base.proofs.Acceptance.{other_cause}
-use Rattle.sshkey_cert.specs.CertificateValues.{certificate_of}
+use Rattle.sshkey_cert.specs.Certificates.{certificate_of}
 use Rattle.sshkey_cert.specs.Validity.{fingerprints_of}
 use Rattle.login_policy.proofs.Logins.{judging, memory_of, no_login, other_of}
 use Rattle.login_policy.proofs.login.pending.Goals as goal

@@ -1,6 +1,6 @@
 use Rattle.std.proofs.Common.{◌≡◌, ◌∙◌, inl, inr, refl, sym, true}
 use Rattle.std.proofs.lemmas.Result.{err_from_is_err_and}
-use Rattle.sshkey_cert.specs.CertificateValues.{certificate_of}
+use Rattle.sshkey_cert.specs.Certificates.{certificate_of}
 use Rattle.login_policy.specs.Logins.{login_of}
 use Rattle.login_policy.specs.Refusals.{FromElsewhere, NotSigned}
 use Rattle.login_policy.proofs.Logins.{field_not_memory, granted, refused, trusted_if_none, valid_if_signed}

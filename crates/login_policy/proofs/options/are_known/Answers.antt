@@ -1,5 +1,5 @@
 use Rattle.std.proofs.Common.{◌≡◌, ap, map, true}
-use Rattle.sshkey_cert_values.specs.OptionMaps.{option_of}
+use Rattle.sshkey_cert_values.specs.CertificateFields.{option_of}
 use Rattle.login_policy.specs.KnownOptions.{IsKnownOption}
 use Rattle.login_policy.proofs.KnownOptions.{passed, stopped}
 use Rattle.login_policy.proofs.options.are_known.Goals as goal

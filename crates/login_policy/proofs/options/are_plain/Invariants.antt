@@ -1,5 +1,5 @@
 use Rattle.std.proofs.Common.{map}
-use Rattle.sshkey_cert_values.specs.OptionMaps.{option_of, options_of}
+use Rattle.sshkey_cert_values.specs.CertificateFields.{option_of, options_of}
 use Rattle.login_policy.specs.KnownOptions.{IsPlainExtension}
 use Rattle.login_policy.proofs.KnownOptions.{Decides}
 use Rattle.login_policy.proofs.options.are_plain.Given as goal

@@ -3,7 +3,7 @@ use Rattle.std.specs.Prelude.{codes}
 use Rattle.login_terms.specs.Examples.{only_pty, permitted, restricted}
 use Rattle.login_terms.specs.declared.words.Flag.TheVariants as flag
 use Rattle.login_terms.specs.declared.words.Word.TheVariants as word
-use Rattle.login_terms.proofs.Named.{says}
+use Rattle.login_terms.proofs.ExampleLemmas.{says}
 use Rattle.login_terms.proofs.examples.again.Goals as goal
 
 pub returns : goal.returns

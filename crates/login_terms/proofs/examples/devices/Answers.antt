@@ -1,7 +1,7 @@
 use Rattle.std.proofs.Common.{Some, arith, inl, inr, refl}
 use Rattle.std.specs.Prelude.{codes}
 use Rattle.login_terms.specs.declared.words.Word.TheVariants as word
-use Rattle.login_terms.proofs.Named.{adds, unlike}
+use Rattle.login_terms.proofs.ExampleLemmas.{adds, unlike}
 use Rattle.login_terms.proofs.examples.devices.Goals as goal
 
 pub returns : goal.returns

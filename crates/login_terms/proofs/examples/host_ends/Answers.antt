@@ -1,6 +1,6 @@
 use Rattle.std.proofs.Common.{[], arith, codes, refl}
 use Rattle.login_terms.specs.Values.{closing_bracket, colon}
-use Rattle.login_terms.proofs.Named.{unlike, without}
+use Rattle.login_terms.proofs.ExampleLemmas.{unlike, without}
 use Rattle.login_terms.proofs.examples.host_ends.Goals as goal
 
 pub returns : goal.returns

@@ -1,5 +1,5 @@
 use Rattle.std.proofs.Common.{arith, inl, refl}
-use Rattle.login_terms.proofs.OneHost.{bracketed, plain, port}
+use Rattle.login_terms.proofs.ExampleLemmas.{bracketed, plain, port}
 use Rattle.login_terms.proofs.examples.hosts.Goals as goal
 
 pub returns : goal.returns

@@ -1,8 +1,7 @@
 use Rattle.std.proofs.Common.{[], ◌∷◌, None, Some, refl}
 use Rattle.std.specs.Prelude.{codes}
-use Rattle.login_terms.specs.Examples.{restricted}
-use Rattle.login_terms.specs.QuestionExamples.{at, listening, opening}
-use Rattle.login_terms.specs.Terms.{no_terms}
+use Rattle.login_terms.specs.Examples.{restricted, at, listening, opening}
+use Rattle.login_terms.specs.Options.{no_terms}
 use Rattle.login_terms.proofs.Asked.{not_listened, listened}
 use Rattle.login_terms.proofs.examples.listened.Goals as goal
 

@@ -1,5 +1,5 @@
 use Rattle.std.proofs.Common.{arith, inl, inr, refl}
-use Rattle.login_terms.proofs.Named.{few_digits, never, unlike, without}
+use Rattle.login_terms.proofs.ExampleLemmas.{few_digits, never, unlike, without}
 use Rattle.login_terms.specs.Values.{colon}
 use Rattle.std.specs.Prelude.{codes}
 use Rattle.login_terms.proofs.examples.may_be_values.Goals as goal

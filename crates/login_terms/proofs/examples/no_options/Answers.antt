@@ -1,9 +1,9 @@
 use Rattle.std.proofs.Common.{[], None, Some, refl}
 use Rattle.std.specs.Prelude.{codes}
-use Rattle.login_terms.specs.Terms.{no_terms}
+use Rattle.login_terms.specs.Options.{no_terms}
 use Rattle.login_terms.specs.declared.words.Flag.TheVariants as flag
 use Rattle.login_terms.specs.declared.words.Word.TheVariants as word
-use Rattle.login_terms.proofs.Named.{refuses, unknown}
+use Rattle.login_terms.proofs.ExampleLemmas.{refuses, unknown}
 use Rattle.login_terms.proofs.examples.no_options.Goals as goal
 
 pub returns : goal.returns

@@ -1,8 +1,8 @@
 use Rattle.std.proofs.Common.{Some, refl}
 use Rattle.std.specs.Prelude.{codes}
-use Rattle.login_terms.specs.Terms.{no_terms}
+use Rattle.login_terms.specs.Options.{no_terms}
 use Rattle.login_terms.specs.declared.words.Word.TheVariants as word
-use Rattle.login_terms.proofs.Named.{refuses, says, some_none}
+use Rattle.login_terms.proofs.ExampleLemmas.{refuses, says, some_none}
 use Rattle.login_terms.proofs.examples.once.Goals as goal
 
 pub returns : goal.returns

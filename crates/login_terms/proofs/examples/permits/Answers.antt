@@ -1,9 +1,8 @@
 use Rattle.std.proofs.Common.{Some, arith, refl}
 use Rattle.std.specs.Prelude.{codes}
-use Rattle.login_terms.specs.Terms.{no_terms}
+use Rattle.login_terms.specs.Options.{no_terms}
 use Rattle.login_terms.specs.declared.words.Word.TheVariants as word
-use Rattle.login_terms.proofs.Named.{adds}
-use Rattle.login_terms.proofs.OneHost.{plain, port}
+use Rattle.login_terms.proofs.ExampleLemmas.{adds, plain, port}
 use Rattle.login_terms.proofs.examples.permits.Goals as goal
 
 pub returns : goal.returns

@@ -1,7 +1,7 @@
 use Rattle.std.proofs.Common.{◌∙◌, ◌∷◌, ◌++◌, ap, arith, codes, inl, inr, refl}
 use Rattle.std.specs.Prelude.{replicate}
 use Rattle.login_terms.specs.Values.{closing_bracket, colon, opening_bracket}
-use Rattle.login_terms.proofs.Named.{unlike, without}
+use Rattle.login_terms.proofs.ExampleLemmas.{unlike, without}
 use Rattle.login_terms.proofs.examples.split_hosts.Goals as goal
 
 pub returns : goal.returns

@@ -1,9 +1,9 @@
 use Rattle.std.proofs.Common.{None, refl}
 use Rattle.std.specs.Prelude.{codes}
-use Rattle.login_terms.specs.Terms.{no_terms}
+use Rattle.login_terms.specs.Options.{no_terms}
 use Rattle.login_terms.specs.declared.words.Flag.TheVariants as flag
 use Rattle.login_terms.specs.declared.words.Word.TheVariants as word
-use Rattle.login_terms.proofs.Named.{says}
+use Rattle.login_terms.proofs.ExampleLemmas.{says}
 use Rattle.login_terms.proofs.examples.taken.Goals as goal
 
 pub returns : goal.returns

@@ -1,6 +1,6 @@
 use Rattle.std.proofs.Common.{[], ◌∷◌, ◌++◌, arith, codes, refl}
 use Rattle.login_terms.specs.Values.{equals_sign}
-use Rattle.login_terms.proofs.Named.{never, unlike, without}
+use Rattle.login_terms.proofs.ExampleLemmas.{never, unlike, without}
 use Rattle.login_terms.proofs.examples.variable_names.Goals as goal
 
 pub returns : goal.returns

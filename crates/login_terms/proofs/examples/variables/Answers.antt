@@ -1,7 +1,7 @@
 use Rattle.std.proofs.Common.{arith, inl, refl}
 use Rattle.std.specs.Prelude.{codes}
 use Rattle.login_terms.specs.Values.{IsVariable}
-use Rattle.login_terms.proofs.Named.{without}
+use Rattle.login_terms.proofs.ExampleLemmas.{without}
 use Rattle.login_terms.proofs.examples.variables.Goals as goal
 
 own : IsVariable (codes "A=b") (codes "A")

@@ -1,5 +1,5 @@
 use Rattle.std.proofs.Common.{arith, inl, inr, refl}
-use Rattle.login_terms.proofs.Named.{few_digits, never}
+use Rattle.login_terms.proofs.ExampleLemmas.{few_digits, never}
 use Rattle.login_terms.proofs.examples.white.Goals as goal
 
 pub returns : goal.returns

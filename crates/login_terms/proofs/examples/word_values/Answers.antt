@@ -1,5 +1,5 @@
 use Rattle.std.proofs.Common.{arith, refl}
-use Rattle.login_terms.proofs.Named.{unlike}
+use Rattle.login_terms.proofs.ExampleLemmas.{unlike}
 use Rattle.login_terms.proofs.examples.word_values.Goals as goal
 
 pub returns : goal.returns

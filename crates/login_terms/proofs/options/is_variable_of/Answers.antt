@@ -1,7 +1,7 @@
 use Rattle.std.proofs.Common.{◌∙◌, ◌∷◌, ◌++◌, [], List, Some, None, ap, sym, ℕ}
 use Rattle.std.proofs.lemmas.Bool.Decides.{Decides-eqb}
 use Rattle.std.proofs.lemmas.Slice.Eq.{starts_is, strip_prefix_is}
-use Rattle.login_terms.proofs.VariableNames.{goes_on}
+use Rattle.login_terms.proofs.Variables.{goes_on}
 use Rattle.login_terms.proofs.options.is_variable_of.Goals as goal
 
 pub returns-in-Some : goal.returns-in-Some

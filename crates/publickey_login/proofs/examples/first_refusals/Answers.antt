@@ -1,5 +1,5 @@
 use Rattle.std.proofs.Common.{refl}
-use Rattle.publickey_login.specs.Searches.{ArePassed, IsOfFirst}
+use Rattle.publickey_login.specs.Sources.{ArePassed, IsOfFirst}
 use Rattle.publickey_login.proofs.RefusalExamples.{not_silent, nothing, only_first}
 use Rattle.publickey_login.proofs.examples.first_refusals.Goals as goal
 

@@ -1,5 +1,5 @@
 use Rattle.std.proofs.Common.{refl}
-use Rattle.publickey_login.specs.Searches.{IsOfFirst}
+use Rattle.publickey_login.specs.Sources.{IsOfFirst}
 use Rattle.publickey_login.proofs.examples.principal_refusals.Goals as goal
 
 pub returns : goal.returns

@@ -4,12 +4,9 @@ use Rattle.sshkey_model.specs.Fingerprints.{fingerprint}
 use Rattle.sshkey_model.specs.Names.{Sha256}
 use Rattle.sshkey_model.specs.Refusals.{has_trusted_authority}
 use Rattle.user_keys.specs.declared.refusal.Reason.TheVariants.{Elsewhere, Expired}
-use Rattle.publickey_login.specs.GrantExamples.{trusting_all}
-use Rattle.publickey_login.specs.LoginExamples.{certificate, login, nobodys, trusting}
-use Rattle.publickey_login.specs.Logins.{Files, Read}
+use Rattle.publickey_login.specs.LoginExamples.{trusting_all, certificate, login, nobodys, trusting}
+use Rattle.publickey_login.specs.Sources.{Files, Read, ArePassed, AuthorityLine, IsOfFirst, user_of}
 use Rattle.publickey_login.specs.RefusalExamples.{at}
-use Rattle.publickey_login.specs.Searches.{ArePassed, AuthorityLine, IsOfFirst}
-use Rattle.publickey_login.specs.Sources.{user_of}
 use Rattle.publickey_login.specs.declared.grant.Source.TheVariants as source
 use Rattle.publickey_login.proofs.RefusalExamples.{never_told}
 use Rattle.publickey_login.proofs.examples.refused_certificates.Goals as goal

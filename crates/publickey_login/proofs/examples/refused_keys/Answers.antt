@@ -1,9 +1,8 @@
 use Rattle.std.proofs.Common.{None, refl}
 use Rattle.user_keys.specs.declared.refusal.Reason.TheVariants.{Elsewhere, Expired}
-use Rattle.publickey_login.specs.GrantExamples.{trusting_all}
+use Rattle.publickey_login.specs.LoginExamples.{trusting_all}
 use Rattle.publickey_login.specs.RefusalExamples.{at}
-use Rattle.publickey_login.specs.Searches.{ArePassed, IsOfFirst}
-use Rattle.publickey_login.specs.Sources.{user_of}
+use Rattle.publickey_login.specs.Sources.{ArePassed, IsOfFirst, user_of}
 use Rattle.publickey_login.specs.declared.grant.Source.TheVariants as source
 use Rattle.publickey_login.proofs.RefusalExamples.{never_unlisted, nothing}
 use Rattle.publickey_login.proofs.examples.refused_keys.Goals as goal

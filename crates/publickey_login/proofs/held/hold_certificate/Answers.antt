@@ -1,12 +1,11 @@
 use Rattle.std.proofs.Common.{◌≡◌, ◌∙◌, Ok, Option, Some, ap, inl, inr, refl, subst, sym, true}
 use Rattle.std.proofs.lemmas.Result.{err_from_is_err_and}
 use Rattle.login_policy.specs.Logins as policy
-use Rattle.login_policy.specs.Pendings as policies
+use Rattle.login_policy.specs.Logins as policies
 use Rattle.login_policy.specs.Refusals.{RefusesLogin}
-use Rattle.openssh_limits.specs.Keys.{openssh_accepts_key}
-use Rattle.sshkey_cert.specs.CertificateValues.{certificate_of}
-use Rattle.sshkey_cert.specs.Questions.{certificate_question}
-use Rattle.sshkey_cert.specs.Validity.{fingerprints_of}
+use Rattle.openssh_limits.specs.Limits.{openssh_accepts_key}
+use Rattle.sshkey_cert.specs.Certificates.{certificate_of}
+use Rattle.sshkey_cert.specs.Validity.{certificate_question, fingerprints_of}
 use Rattle.sshkey_keys.specs.Fingerprints.{IsFingerprint}
 use Rattle.sshkey_keys.specs.Keys.{key_of}
 use Rattle.sshkey_model.specs.Keys.{Key}

@@ -1,7 +1,7 @@
 use Rattle.std.proofs.Common.{◌+◌, List, [], None, Ok, Some, Option, ap, drop, map, subst, sym, ◌∙◌}
 use Rattle.std.proofs.lemmas.Result.{err_from_is_err_and}
 use Rattle.publickey_login.proofs.Searches.{AreLeft, RefusesSoFar, after_none, after_refused, all_left, at_end, at_refused, found_here, left_at, none_left, none_passes, none_so_far, nothing_left, one_less, refused_ends, refused_here, refused_passes, unread_here, untold_here}
-use Rattle.publickey_login.specs.Logins.{Text}
+use Rattle.publickey_login.specs.Sources.{Text}
 use Rattle.publickey_login.specs.Results.{SearchesText, asked_of}
 use Rattle.publickey_login.specs.Stops.{RefusesFirst}
 use Rattle.publickey_login.specs.Values.{found_of, sought_of, text_of}

@@ -1,4 +1,4 @@
-use Rattle.sshkey_cert.specs.CertificateValues.{certificate_of}
+use Rattle.sshkey_cert.specs.Certificates.{certificate_of}
 use Rattle.sshkey_keys.specs.Keys.{key_of}
 use Rattle.publickey_login.proofs.Searches.{authority_line, key_line, principal_line}
 use Rattle.publickey_login.specs.Results.{asked_of}

@@ -1,8 +1,8 @@
 use Rattle.std.proofs.Common.{inr, refl}
 use Rattle.sshkey_keys.specs.Keys.{key_of}
-use Rattle.publickey_login.specs.Refusals.{IsWhyUnsigned}
+use Rattle.publickey_login.specs.Signatures.{IsWhyUnsigned}
 use Rattle.publickey_login.specs.Values.{offer_of, signed_of}
-use Rattle.publickey_login.proofs.Unsigned.{not_left}
+use Rattle.publickey_login.proofs.Grants.{not_left}
 use Rattle.publickey_login.proofs.signed.client_question.Goals as goal
 
 pub returns-in-Ok-clause-exactly : goal.returns-in-Ok-clause-exactly

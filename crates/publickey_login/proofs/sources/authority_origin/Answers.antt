@@ -1,7 +1,7 @@
 use Rattle.std.proofs.Common.{◌∙◌, ap, map, sym}
-use Rattle.sshkey_cert.specs.CertificateValues.{certificate_of}
+use Rattle.sshkey_cert.specs.Certificates.{certificate_of}
 use Rattle.sshkey_model.specs.Refusals.{has_trusted_authority}
-use Rattle.publickey_login.specs.Logins.{Trusted}
+use Rattle.publickey_login.specs.Sources.{Trusted}
 use Rattle.publickey_login.specs.Values.{principals_of, text_of}
 use Rattle.publickey_login.proofs.Origins.{by_principals_of}
 use Rattle.publickey_login.specs.declared.trusted.Principals.{Principals}

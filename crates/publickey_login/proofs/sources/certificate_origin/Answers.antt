@@ -1,9 +1,9 @@
 use Rattle.std.proofs.Common.{Ok, subst, sym, ◌∙◌, ap}
 use Rattle.std.proofs.lemmas.Result.{err_from_is_err_and}
 use Rattle.std.specs.Option.{option_or}
-use Rattle.sshkey_cert.specs.CertificateValues.{certificate_of}
+use Rattle.sshkey_cert.specs.Certificates.{certificate_of}
 use Rattle.publickey_login.specs.Results.{OriginatesBy, SearchesIn, asked_of}
-use Rattle.publickey_login.specs.Searches.{AuthorityLine}
+use Rattle.publickey_login.specs.Sources.{AuthorityLine}
 use Rattle.publickey_login.specs.Stops.{IsWhyNoSource, refusal_for}
 use Rattle.publickey_login.specs.Values.{trusted_of}
 use Rattle.publickey_login.specs.declared.refusal.PublickeyRefusal.{PublickeyRefusal}

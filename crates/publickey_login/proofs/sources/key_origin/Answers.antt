@@ -2,7 +2,7 @@ use Rattle.std.proofs.Common.{Ok, subst, sym, ◌∙◌, ap}
 use Rattle.std.proofs.lemmas.Result.{err_from_is_err_and}
 use Rattle.sshkey_keys.specs.Keys.{key_of}
 use Rattle.publickey_login.specs.Results.{SearchesIn, asked_of}
-use Rattle.publickey_login.specs.Searches.{KeyLine}
+use Rattle.publickey_login.specs.Sources.{KeyLine}
 use Rattle.publickey_login.specs.Stops.{IsWhyNoKeySource, refusal_for}
 use Rattle.publickey_login.specs.Values.{trusted_of}
 use Rattle.publickey_login.specs.declared.refusal.PublickeyRefusal.{PublickeyRefusal}

@@ -1,4 +1,4 @@
-use Rattle.sshkey_cert.proofs.CertificateReaders.{certificate_spelled}
+use Rattle.sshkey_cert.proofs.Certificates.{certificate_spelled}
 use Rattle.ssh_key.proofs.laws.spelled_certificate.Goals as goal
 
 pub returns : goal.returns

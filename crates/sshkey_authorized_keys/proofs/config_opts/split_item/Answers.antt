@@ -1,6 +1,6 @@
 use Rattle.std.proofs.Common.{◌∙◌, sym, subst, List, ℕ, ◌∷◌, Some, None}
 use Rattle.sshkey_entries.specs.Items.{items}
-use Rattle.sshkey_authorized_keys.specs.Dividers.{FindsDivider}
+use Rattle.sshkey_authorized_keys.specs.Options.{FindsDivider}
 use Rattle.sshkey_authorized_keys.proofs.Dividers.{items_first, items_last, whole_front}
 use Rattle.sshkey_authorized_keys.proofs.config_opts.split_item.Goals as goal
 

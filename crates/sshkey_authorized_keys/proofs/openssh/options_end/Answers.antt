@@ -1,5 +1,5 @@
 use Rattle.std.proofs.Common.{sym, ap, ◌∙◌, not, cond, Bool, arith}
-use Rattle.sshkey_entries.proofs.OptionEnds.{inside_first, inside_more}
+use Rattle.sshkey_entries.proofs.OptionItems.{inside_first, inside_more}
 use Rattle.sshkey_authorized_keys.proofs.OptionEnds.{none_more, ends_there, no_end}
 use Rattle.sshkey_authorized_keys.proofs.openssh.options_end.Goals as goal
 use Rattle.sshkey_authorized_keys.proofs.openssh.options_end.Goals.{then-is_plain_quote, else-is_plain_quote}

@@ -1,5 +1,5 @@
 use Rattle.std.proofs.Common.{◌≡◌}
-use Rattle.sshkey_entries.specs.OptionEnds.{is_inside}
+use Rattle.sshkey_entries.specs.Fields.{is_inside}
 use Rattle.sshkey_authorized_keys.proofs.OptionEnds.{NoEndBefore}
 use Rattle.sshkey_authorized_keys.proofs.openssh.options_end.Given as goal
 

@@ -1,5 +1,5 @@
 use Rattle.std.proofs.Common.{subst}
-use Rattle.sshkey_authorized_keys.specs.OpenSshFaults.{HasNoEnd}
+use Rattle.sshkey_authorized_keys.specs.OpenSshEntries.{HasNoEnd}
 use Rattle.sshkey_authorized_keys.proofs.OptionEnds.{cut_place, options_cut}
 use Rattle.sshkey_authorized_keys.proofs.openssh.split_options.Goals as goal
 

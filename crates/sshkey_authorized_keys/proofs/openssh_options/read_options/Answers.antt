@@ -1,10 +1,10 @@
 use Rattle.std.proofs.Common.{◌≡◌, List, Some, subst, ℕ}
 use Rattle.sshkey_entries.specs.OptionItems.{MaySay, Says}
-use Rattle.sshkey_entries.specs.Readings.{Tells}
+use Rattle.sshkey_entries.specs.Answers.{Tells}
 use Rattle.sshkey_entries.specs.declared.reading.Reading.{Reading}
 use Rattle.sshkey_entries.specs.declared.reading.Reading.TheVariants.{Is, Rejected, Unclear}
-use Rattle.sshkey_entries.proofs.SaidOptions.{all_read, no_options, read_on, rejected_here, unclear_here}
-use Rattle.sshkey_authorized_keys.specs.OpenSshItems.{YieldsOption, key_option_of}
+use Rattle.sshkey_entries.proofs.OptionItems.{all_read, no_options, read_on, rejected_here, unclear_here}
+use Rattle.sshkey_authorized_keys.specs.Options.{YieldsOption, key_option_of}
 use Rattle.sshkey_authorized_keys.proofs.openssh_options.read_options.Goals as goal
 
 pub loop-option-init : goal.loop-option-init

@@ -1,5 +1,5 @@
 use Rattle.sshkey_entries.specs.OptionItems.{MaySay, Says}
-use Rattle.sshkey_entries.specs.Readings.{Tells}
+use Rattle.sshkey_entries.specs.Answers.{Tells}
 use Rattle.sshkey_entries.specs.declared.reading.Reading.{Reading}
 use Rattle.sshkey_authorized_keys.proofs.openssh_options.read_options.Given as goal
 

@@ -1,7 +1,7 @@
 use Rattle.std.proofs.Common.{Option, List, ℕ, subst}
 use Rattle.std.specs.Prelude.{IfOk, option_map, string_bytes}
-use Rattle.sshkey_entries.specs.Readings.{Tells}
-use Rattle.sshkey_authorized_keys.specs.OpenSshItems.{key_option_of}
+use Rattle.sshkey_entries.specs.Answers.{Tells}
+use Rattle.sshkey_authorized_keys.specs.Options.{key_option_of}
 use Rattle.sshkey_authorized_keys.proofs.openssh_options.with_option.Goals as goal
 
 pub returns : goal.returns

@@ -1,5 +1,5 @@
 use Rattle.std.proofs.Common.{◌≡◌, ◌<◌, ℕ, false}
-use Rattle.sshkey_authorized_keys.specs.OptionCuts.{is_escape}
+use Rattle.sshkey_authorized_keys.specs.Options.{is_escape}
 use Rattle.sshkey_authorized_keys.proofs.option_syntax.escape_place.Given as goal
 
 -- none was passed over

@@ -1,5 +1,5 @@
 use Rattle.std.proofs.Common.{◌≡◌, ◌<◌, ℕ, false}
-use Rattle.sshkey_entries.specs.OptionEnds.{is_plain_quote}
+use Rattle.sshkey_entries.specs.Fields.{is_plain_quote}
 use Rattle.sshkey_authorized_keys.proofs.option_syntax.quote_end.Given as goal
 
 -- none was passed over

@@ -1,5 +1,5 @@
 use Rattle.sshkey_entries.specs.OpenSshLines.{IsAuthorizedLine}
-use Rattle.sshkey_authorized_keys.proofs.ReadBack.{openssh_form, tells_openssh, tells_none}
+use Rattle.sshkey_authorized_keys.proofs.Entries.{openssh_form, tells_openssh, tells_none}
 use Rattle.sshkey_authorized_keys.proofs.read_back.is_read_by_openssh.Goals as goal
 
 pub is_openssh_entry-requires : goal.is_openssh_entry-requires

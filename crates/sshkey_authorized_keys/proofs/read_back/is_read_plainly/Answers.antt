@@ -1,5 +1,5 @@
 use Rattle.sshkey_entries.specs.AuthorizedKeys.{IsAuthorizedKey}
-use Rattle.sshkey_authorized_keys.proofs.ReadBack.{plain_form, tells_plainly, tells_none}
+use Rattle.sshkey_authorized_keys.proofs.Entries.{plain_form, tells_plainly, tells_none}
 use Rattle.sshkey_authorized_keys.proofs.read_back.is_read_plainly.Goals as goal
 
 pub is_same-requires : goal.is_same-requires

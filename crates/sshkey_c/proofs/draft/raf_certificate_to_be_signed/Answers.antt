@@ -1,5 +1,5 @@
 use Rattle.std.proofs.Common.{◌∙◌, arith, refl, sym}
-use Rattle.sshkey_cert_values.specs.ToBeSignedValues.{to_be_signed_of}
+use Rattle.sshkey_cert_values.specs.CertificateFields.{to_be_signed_of}
 use Rattle.sshkey_calls.specs.Drafts.{TellsFields, draft_fault, parts_fault}
 use Rattle.sshkey_calls.proofs.DraftNumbers.{first_three, last_three, no_fault_told, no_value, number_told, only_asked}
 use Rattle.sshkey_calls.proofs.Drafts.{to_be_signed_told}

@@ -1,5 +1,5 @@
 use Rattle.std.proofs.Common.{◌≡◌, List, rules, subst, ℕ}
-use Rattle.sshkey_authorized_keys.specs.OpenSshFaults.{HasLineFault}
+use Rattle.sshkey_authorized_keys.specs.OpenSshEntries.{HasLineFault}
 use Rattle.sshkey_entries.specs.OpenSshLines.{IsAuthorizedLine}
 use Rattle.sshkey_entry_calls.specs.Entries.{FindsEntry, NeedsAuthorizedEntry, TellsFault, of_authorized_key}
 use Rattle.sshkey_c.proofs.entry.raf_authorized_entry.Goals as goal

@@ -1,5 +1,5 @@
 use Rattle.std.proofs.Common.{◌≡◌, List, rules, subst, ℕ}
-use Rattle.sshkey_known_hosts.specs.OpenSshHosts.{HasLineFault, NeedsHostLine}
+use Rattle.sshkey_known_hosts.specs.HostEntries.{HasLineFault, NeedsHostLine}
 use Rattle.sshkey_entries.specs.OpenSshLines.{IsHostLine}
 use Rattle.sshkey_entry_calls.specs.Entries.{FindsEntry, TellsFault, of_known_host}
 use Rattle.sshkey_c.proofs.entry.raf_known_host.Goals as goal

@@ -1,8 +1,7 @@
 use Rattle.std.proofs.Common.{◌≡◌, ◌∙◌, length, ap, refl, subst, sym}
 use Rattle.std.proofs.lemmas.Bool.Decides.{Decides-eqb}
 use Rattle.std.specs.List.{Any}
-use Rattle.sshkey_c.specs.Forwarding.{IsFor}
-use Rattle.sshkey_c.specs.Grants.{permit_strings}
+use Rattle.sshkey_c.specs.Grants.{IsFor, permit_strings}
 use Rattle.sshkey_c.proofs.Places.{here, later, next, no_bytes, not_here, nowhere}
 use Rattle.sshkey_c.proofs.forwarding.is_named.Goals as goal
 

@@ -1,8 +1,7 @@
 use Rattle.std.proofs.Common.{◌≡◌, ◌↔◌, List, length}
 use Rattle.std.specs.List.{AllByRecursion, Any}
 use Rattle.login_terms.specs.Values.{HostAndPort}
-use Rattle.sshkey_c.specs.Forwarding.{IsFor, IsPlace}
-use Rattle.sshkey_c.specs.Grants.{permit_strings}
+use Rattle.sshkey_c.specs.Grants.{IsFor, IsPlace, permit_strings}
 use Rattle.sshkey_c.proofs.forwarding.is_named.Given as goal
 
 -- What is left has some of the places, and one of them is for what is asked exactly if one of all is.

@@ -1,5 +1,5 @@
 use Rattle.std.proofs.Common.{[]}
-use Rattle.sshkey_c.specs.Forwarding.{IsFor}
+use Rattle.sshkey_c.specs.Grants.{IsFor}
 use Rattle.sshkey_c.proofs.Places.{nowhere}
 use Rattle.sshkey_c.proofs.forwarding.permitted.Goals as goal
 

@@ -2,8 +2,8 @@ use Rattle.std.proofs.Common.{◌∙◌, inl, sym}
 use Rattle.sshkey_base.specs.Causes.{cause}
 use Rattle.sshkey_cert_ref.specs.CertificateRef.{certificate_bytes}
 use Rattle.sshkey_model.specs.Certificates.{certificate_at, SpellsCertificate}
-use Rattle.sshkey_calls.proofs.Outcomes.{refused}
-use Rattle.sshkey_known_hosts.proofs.LinePlaces.{as_long}
+use Rattle.sshkey_calls.proofs.Rooms.{refused}
+use Rattle.sshkey_known_hosts.proofs.HeldLines.{as_long}
 use Rattle.sshkey_entry_calls.specs.Hosts.{held_lines}
 use Rattle.sshkey_entry_calls.proofs.Verified.{told}
 use Rattle.sshkey_c.proofs.host.raf_check_held_host_certificate.Goals as goal

@@ -1,10 +1,9 @@
 use Rattle.std.proofs.Common.{inl, subst, sym}
 use Rattle.sshkey_base.specs.Causes.{cause}
 use Rattle.sshkey_model.specs.Keys.{SpellsKey, key_data_at}
-use Rattle.sshkey_keys_ref.specs.KeyDataRef.{key_bytes}
+use Rattle.sshkey_keys_ref.specs.Keys.{key_bytes}
 use Rattle.sshkey_model.specs.Reading.{whole}
-use Rattle.sshkey_calls.proofs.Kept.{kept_bytes}
-use Rattle.sshkey_calls.proofs.Outcomes.{refused}
+use Rattle.sshkey_calls.proofs.Rooms.{kept_bytes, refused}
 use Rattle.sshkey_c.proofs.host.raf_check_host_key.Goals as goal
 
 pub returns-in-Ok-clause-verdict : goal.returns-in-Ok-clause-verdict

@@ -1,6 +1,6 @@
 use Rattle.std.proofs.Common.{drop, length}
-use Rattle.login_terms.specs.Terms.{terms_of}
-use Rattle.sshkey_c.proofs.Front.{at_front}
+use Rattle.login_terms.specs.Options.{terms_of}
+use Rattle.sshkey_c.proofs.Grants.{at_front}
 use Rattle.sshkey_c.specs.Grants.{command_of, grant_bytes, key_id_of, permit_strings, strings, to_listen, to_open}
 use Rattle.sshkey_c.proofs.laws.command_is_there.Goals as goal
 

@@ -1,7 +1,7 @@
 use Rattle.std.proofs.Common.{List, ℕ, inl, inr, subst, sym, ◌∙◌}
 use Rattle.sshkey_matching.specs.AskedHosts.{IsAsked, IsHostFault}
-use Rattle.sshkey_entry_calls.specs.UnreadableLines.{TellsUnreadableLine}
-use Rattle.sshkey_entry_calls.proofs.AskedLines.{needs_memory}
+use Rattle.sshkey_entry_calls.specs.Hosts.{TellsUnreadableLine}
+use Rattle.sshkey_entry_calls.proofs.Hosts.{needs_memory}
 use Rattle.sshkey_c.proofs.line.raf_unreadable_host_line.Goals as goal
 
 pub returns-in-Ok-asked_host-clause-line : goal.returns-in-Ok-asked_host-clause-line

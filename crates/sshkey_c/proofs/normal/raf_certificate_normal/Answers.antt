@@ -2,7 +2,7 @@ use Rattle.std.proofs.Common.{inl, refl}
 use Rattle.sshkey_base.specs.Causes.{cause}
 use Rattle.sshkey_cert_ref.specs.CertificateRef.{certificate_bytes, certificate_of}
 use Rattle.sshkey_model.specs.Certificates.{certificate_at, SpellsCertificate}
-use Rattle.sshkey_calls.proofs.Outcomes.{refused}
+use Rattle.sshkey_calls.proofs.Rooms.{refused}
 use Rattle.sshkey_c.proofs.normal.raf_certificate_normal.Goals as goal
 
 pub returns-in-Ok : goal.returns-in-Ok

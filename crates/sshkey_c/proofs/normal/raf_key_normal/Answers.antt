@@ -2,10 +2,9 @@ use Rattle.std.proofs.Common.{inl, refl, subst, sym}
 use Rattle.sshkey_base.specs.Acceptance.{SpellsSome}
 use Rattle.sshkey_base.specs.Causes.{cause}
 use Rattle.sshkey_model.specs.Keys.{SpellsKey, key_data_at}
-use Rattle.sshkey_keys_ref.specs.KeyDataRef.{key_bytes}
+use Rattle.sshkey_keys_ref.specs.Keys.{key_bytes}
 use Rattle.sshkey_model.specs.Reading.{whole}
-use Rattle.sshkey_calls.proofs.Kept.{kept_bytes, never_memory}
-use Rattle.sshkey_calls.proofs.Outcomes.{refused}
+use Rattle.sshkey_calls.proofs.Rooms.{kept_bytes, never_memory, refused}
 use Rattle.sshkey_calls.proofs.Revocations.{renamed_key}
 use Rattle.sshkey_c.proofs.normal.raf_key_normal.Goals as goal
 

@@ -1,11 +1,9 @@
 use Rattle.std.proofs.Common.{inl, refl, ◌∙◌}
 use Rattle.sshkey_base.specs.Causes.{cause}
-use Rattle.sshkey_keys_ref.specs.SignatureRef.{signature_bytes}
+use Rattle.sshkey_keys_ref.specs.Signatures.{signature_bytes}
 use Rattle.sshkey_model.specs.Reading.{whole}
 use Rattle.sshkey_model.specs.Signatures.{signature_at, SpellsSignature}
-use Rattle.sshkey_calls.proofs.Kept.{kept_bytes, never_memory}
-use Rattle.sshkey_calls.proofs.Outcomes.{refused}
-use Rattle.sshkey_calls.proofs.Rooms.{give_one}
+use Rattle.sshkey_calls.proofs.Rooms.{kept_bytes, never_memory, refused, give_one}
 use Rattle.sshkey_c.proofs.normal.raf_signature_normal.Goals as goal
 
 pub returns-in-Ok-clause-normal : goal.returns-in-Ok-clause-normal

@@ -1,7 +1,7 @@
 use Rattle.std.proofs.Common.{inl, refl}
 use Rattle.sshkey_base.specs.Causes.{cause}
 use Rattle.sshkey_sshsig.specs.SshSignatures.{ssh_signature_of}
-use Rattle.sshkey_calls.proofs.SshSignatures.{unread}
+use Rattle.sshkey_calls.proofs.Signatures.{unread}
 use Rattle.sshkey_c.proofs.normal.raf_sshsig_normal.Goals as goal
 
 pub returns-in-Ok : goal.returns-in-Ok

@@ -3,9 +3,8 @@ use Rattle.sshkey_base.specs.Causes.{cause}
 use Rattle.sshkey_cert_ref.specs.CertificateRef.{certificate_bytes, certificate_of}
 use Rattle.sshkey_model.specs.Certificates.{certificate_at, SpellsCertificate}
 use Rattle.sshkey_model.specs.Reading.{whole}
-use Rattle.sshkey_calls.specs.Lists.{ArePartsOf}
-use Rattle.sshkey_calls.proofs.Kept.{kept_bytes}
-use Rattle.sshkey_calls.proofs.Outcomes.{refused}
+use Rattle.sshkey_calls.specs.Certificates.{ArePartsOf}
+use Rattle.sshkey_calls.proofs.Rooms.{kept_bytes, refused}
 use Rattle.sshkey_c.proofs.parts.raf_certificate_parts.Goals as goal
 
 pub returns-in-Ok : goal.returns-in-Ok

@@ -1,5 +1,5 @@
-use Rattle.sshkey_calls.proofs.OptionPlaces.{ends, finds, is_past, none_there, short_enough}
-use Rattle.sshkey_calls.proofs.Strings.{whole_slice}
+use Rattle.sshkey_calls.proofs.Options.{ends, finds, is_past, none_there, short_enough}
+use Rattle.sshkey_calls.proofs.Places.{whole_slice}
 use Rattle.sshkey_c.proofs.parts.raf_next_certificate_option.Goals as goal
 
 pub returns-then-place-bytes : goal.returns-then-place-bytes

@@ -1,12 +1,12 @@
 use Rattle.std.proofs.Common.{◌≡◌, ◌≢◌, ◌∙◌, ap, inr, map, subst, sym, ℕ}
 use Rattle.publickey_login.specs.Grants.{IsPending}
-use Rattle.publickey_login.specs.Logins.{Login, client_seen}
+use Rattle.publickey_login.specs.Sources.{Login, client_seen}
 use Rattle.publickey_login.specs.Results.{authority_in, client_in, grant_in}
 use Rattle.publickey_login.specs.Stops.{IsWhyNotPending}
 use Rattle.publickey_login.specs.Values.{principals_of, signed_of, text_of}
 use Rattle.publickey_login.specs.declared.refusal.PublickeyRefusal.TheVariants.{Memory}
 use Rattle.sshkey_cert.specs.Validity.{fingerprints_of}
-use Rattle.sshkey_entry_calls.specs.RevocationFiles.{reads_of, revoked_status}
+use Rattle.sshkey_entry_calls.specs.Revocations.{reads_of, revoked_status}
 use Rattle.sshkey_c.proofs.Pends.{same_login}
 use Rattle.sshkey_c.specs.Logins.{principals_from}
 use Rattle.sshkey_c.specs.Refusals.{refusal_of}

@@ -2,7 +2,7 @@ use Rattle.std.proofs.Common.{List, ap, rules, ◌++◌, ◌∙◌, ℕ}
 use Rattle.sshkey_keys.specs.Questions.{asks}
 use Rattle.sshkey_model.specs.Fingerprints.{digest}
 use Rattle.sshkey_model.specs.Names.{Sha256}
-use Rattle.sshkey_c.specs.Asked.{head}
+use Rattle.sshkey_c.specs.Verdicts.{head}
 use Rattle.sshkey_c.specs.Grants.{bit}
 use Rattle.sshkey_c.proofs.Asked.{laid}
 use Rattle.sshkey_c.proofs.questions.lay_out_questions.Goals as goal

@@ -1,5 +1,5 @@
 use Rattle.std.proofs.Common.{◌∙◌, refl, sym}
-use Rattle.sshkey_entry_calls.specs.RevocationFiles.{reads_of}
+use Rattle.sshkey_entry_calls.specs.Revocations.{reads_of}
 use Rattle.sshkey_c.proofs.revocation.raf_check_unrevoked_key.Goals as goal
 
 pub returns-clause-answer : goal.returns-clause-answer

@@ -1,5 +1,5 @@
 use Rattle.sshkey_base.specs.Causes.{cause}
-use Rattle.sshkey_calls.proofs.Kept.{only_memory}
+use Rattle.sshkey_calls.proofs.Rooms.{only_memory}
 use Rattle.sshkey_calls.proofs.Revocations.{none_told}
 use Rattle.sshkey_c.proofs.revocation.raf_check_unrevoked_key_by_krl.Goals as goal
 

@@ -1,5 +1,5 @@
 use Rattle.std.proofs.Common.{option_map}
-use Rattle.sshkey_c.proofs.Commands.{asked_runs, forced_runs}
+use Rattle.sshkey_c.proofs.Grants.{asked_runs, forced_runs}
 use Rattle.sshkey_c.proofs.running.command_in.Goals as goal
 
 pub returns-then-grant-ne0-clause-runs : goal.returns-then-grant-ne0-clause-runs

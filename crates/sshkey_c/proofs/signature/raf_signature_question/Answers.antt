@@ -1,10 +1,9 @@
 use Rattle.std.proofs.Common.{inl, refl, subst, sym}
 use Rattle.sshkey_base.specs.Causes.{cause}
 use Rattle.sshkey_model.specs.Keys.{SpellsKey, key_data_at}
-use Rattle.sshkey_keys_ref.specs.KeyDataRef.{key_bytes}
+use Rattle.sshkey_keys_ref.specs.Keys.{key_bytes}
 use Rattle.sshkey_model.specs.Reading.{whole}
-use Rattle.sshkey_calls.proofs.Kept.{kept_bytes}
-use Rattle.sshkey_calls.proofs.Outcomes.{refused}
+use Rattle.sshkey_calls.proofs.Rooms.{kept_bytes, refused}
 use Rattle.sshkey_c.proofs.signature.raf_signature_question.Goals as goal
 
 pub returns-in-Ok : goal.returns-in-Ok

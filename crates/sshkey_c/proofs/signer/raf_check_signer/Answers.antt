@@ -1,8 +1,8 @@
 use Rattle.std.proofs.Common.{◌≡◌, List, ℕ, inl, inr, refl, rules, subst}
 use Rattle.sshkey_base.specs.Causes.{cause}
-use Rattle.sshkey_calls.proofs.Kept.{only_memory}
+use Rattle.sshkey_calls.proofs.Rooms.{only_memory}
 use Rattle.sshkey_sshsig.specs.SshSignatures.{ssh_signature_of}
-use Rattle.sshkey_entry_calls.specs.Signers.{TellsSigner}
+use Rattle.sshkey_entry_calls.specs.SshSignatures.{TellsSigner}
 use Rattle.sshkey_entry_calls.proofs.SignerVerdicts.{told}
 use Rattle.sshkey_c.proofs.signer.raf_check_signer.Goals as goal
 

@@ -1,4 +1,4 @@
-use Rattle.sshkey_entry_calls.proofs.Answering.{unread}
+use Rattle.sshkey_entry_calls.proofs.Texts.{unread}
 use Rattle.sshkey_c.proofs.text.raf_read_armour.Goals as goal
 
 pub returns-in-Err : goal.returns-in-Err

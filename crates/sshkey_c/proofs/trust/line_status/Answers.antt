@@ -1,5 +1,5 @@
 use Rattle.sshkey_keys.specs.Keys.{key_of}
-use Rattle.sshkey_c.proofs.Told.{is_passed, it_may}
+use Rattle.sshkey_c.proofs.Verdicts.{is_passed, it_may}
 use Rattle.sshkey_c.proofs.trust.line_status.Goals as goal
 
 pub returns-then-line_may_name_key : goal.returns-then-line_may_name_key

@@ -2,11 +2,10 @@ use Rattle.std.proofs.Common.{inl, subst}
 use Rattle.sshkey_base.specs.Causes.{cause}
 use Rattle.sshkey_keys.specs.Keys.{key_of}
 use Rattle.sshkey_model.specs.Keys.{SpellsKey, key_data_at}
-use Rattle.sshkey_keys_ref.specs.KeyDataRef.{key_bytes}
+use Rattle.sshkey_keys_ref.specs.Keys.{key_bytes}
 use Rattle.sshkey_model.specs.Reading.{whole}
-use Rattle.sshkey_calls.proofs.Kept.{kept_bytes}
-use Rattle.sshkey_calls.proofs.Outcomes.{refused}
-use Rattle.sshkey_c.proofs.Told.{no_memory}
+use Rattle.sshkey_calls.proofs.Rooms.{kept_bytes, refused}
+use Rattle.sshkey_c.proofs.Verdicts.{no_memory}
 use Rattle.sshkey_c.proofs.trust.raf_line_may_name_key.Goals as goal
 
 pub returns-in-Ok : goal.returns-in-Ok

@@ -1,6 +1,6 @@
 use Rattle.std.proofs.Common.{◌≡◌}
 use Rattle.std.proofs.lemmas.Result.{err_from_is_err_and}
-use Rattle.publickey_login.specs.Logins.{client_known}
+use Rattle.publickey_login.specs.Sources.{client_known}
 use Rattle.publickey_login.specs.Signatures.{BySshd}
 use Rattle.sshkey_c.proofs.Verdicts.{decided, kept_out}
 use Rattle.sshkey_c.proofs.verdict.decide_offer.Goals as goal

@@ -1,5 +1,5 @@
 use Rattle.std.proofs.Common.{refl}
-use Rattle.publickey_login.specs.Logins.{client_known}
+use Rattle.publickey_login.specs.Sources.{client_known}
 use Rattle.publickey_login.specs.Signatures.{BySshd}
 use Rattle.sshkey_c.specs.Refusals.{said}
 use Rattle.sshkey_c.proofs.Verdicts.{not_offered, offered}

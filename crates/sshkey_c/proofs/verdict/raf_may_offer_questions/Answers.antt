@@ -1,4 +1,4 @@
-use Rattle.publickey_login.specs.Logins.{client_known}
+use Rattle.publickey_login.specs.Sources.{client_known}
 use Rattle.publickey_login.specs.Signatures.{BySshd}
 use Rattle.sshkey_c.proofs.Verdicts.{asked, of_texts}
 use Rattle.sshkey_c.proofs.verdict.raf_may_offer_questions.Goals as goal

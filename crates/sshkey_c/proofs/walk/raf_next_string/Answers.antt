@@ -1,7 +1,7 @@
 use Rattle.std.proofs.Common.{◌++◌, ℕ, List, ap, ◌∙◌}
 use Rattle.sshkey_base.specs.Causes.{encoding_cause}
 use Rattle.sshkey_terms.proofs.SliceFronts.{answers_ok}
-use Rattle.sshkey_calls.proofs.Strings.{ends, finds, is_past, whole_slice}
+use Rattle.sshkey_calls.proofs.Places.{ends, finds, is_past, whole_slice}
 use Rattle.sshkey_c.proofs.walk.raf_next_string.Goals as goal
 
 pub returns-then-place-bytes : goal.returns-then-place-bytes

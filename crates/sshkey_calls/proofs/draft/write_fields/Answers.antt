@@ -1,6 +1,6 @@
 use Rattle.std.proofs.Common.{◌∙◌, refl, sym}
 use Rattle.sshkey_model.specs.Certificates.{normal_to_be_signed}
-use Rattle.sshkey_cert_values.specs.ToBeSignedValues.{to_be_signed_of}
+use Rattle.sshkey_cert_values.specs.CertificateFields.{to_be_signed_of}
 use Rattle.sshkey_calls.proofs.Drafts.{long_or_out, unfit}
 use Rattle.sshkey_calls.proofs.Rooms.{none_given, told_as}
 use Rattle.sshkey_calls.proofs.draft.write_fields.Goals as goal

@@ -1,7 +1,7 @@
 use Rattle.std.proofs.Common.{ℕ, ◌<◌, ◌∙◌, ◌∷◌, [], arith, inr, subst, sym}
 use Rattle.sshkey_base.specs.Acceptance.{SpellsSome}
 use Rattle.sshkey_model.specs.Keys.{SpellsKey}
-use Rattle.sshkey_cert_values.specs.ToBeSignedValues.{to_be_signed_of}
+use Rattle.sshkey_cert_values.specs.CertificateFields.{to_be_signed_of}
 use Rattle.sshkey_calls.specs.Drafts.{FindsOr, TellsFields, draft_fault, parts_fault}
 use Rattle.sshkey_calls.proofs.DraftNumbers.{first_here, first_two}
 use Rattle.sshkey_calls.proofs.draft_fields.fields_of.Goals as goal

@@ -2,11 +2,11 @@ use Rattle.std.proofs.Common.{ap, inr, subst}
 use Rattle.sshkey_base.specs.Causes.{cause}
 use Rattle.sshkey_keys.specs.Keys.{key_of}
 use Rattle.sshkey_model.specs.Keys.{SpellsKey, key_data_at}
-use Rattle.sshkey_keys_ref.specs.KeyDataRef.{key_bytes}
+use Rattle.sshkey_keys_ref.specs.Keys.{key_bytes}
 use Rattle.sshkey_model.specs.Reading.{whole}
 use Rattle.sshkey_calls.specs.Drafts.{number_of}
 use Rattle.sshkey_calls.proofs.DraftNumbers.{key_is, kept_number}
-use Rattle.sshkey_calls.proofs.Kept.{kept_bytes}
+use Rattle.sshkey_calls.proofs.Rooms.{kept_bytes}
 use Rattle.sshkey_calls.proofs.draft_fields.key_from.Goals as goal
 
 pub returns-in-Ok-to_key_data : goal.returns-in-Ok-to_key_data

@@ -6,9 +6,9 @@ use Rattle.sshkey_base.specs.Reading.{IsRefused}
 use Rattle.sshkey_model.specs.Parts.{flat}
 use Rattle.sshkey_model.specs.Reading.{whole}
 use Rattle.sshkey_model.specs.Texts.{string}
-use Rattle.sshkey_cert_values.specs.OptionMaps.{options_of}
+use Rattle.sshkey_cert_values.specs.CertificateFields.{options_of}
 use Rattle.sshkey_model.specs.Options.{SpellsOptions, options_value_at}
-use Rattle.sshkey_cert_values.proofs.OptionLists.{options_grammar}
+use Rattle.sshkey_cert_values.proofs.Lawful.{options_grammar}
 use Rattle.sshkey_calls.proofs.DraftNumbers.{listed_long, listed_right, listed_wrong, refused_number, wrong_part}
 use Rattle.sshkey_calls.proofs.draft_fields.options_from.Goals as goal
 

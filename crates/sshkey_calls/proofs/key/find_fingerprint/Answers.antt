@@ -1,11 +1,10 @@
 use Rattle.sshkey_base.specs.Causes.{cause}
 use Rattle.sshkey_base.specs.Names.{hash_of}
 use Rattle.sshkey_model.specs.Keys.{SpellsKey, key_data_at}
-use Rattle.sshkey_keys_ref.specs.KeyDataRef.{key_bytes}
+use Rattle.sshkey_keys_ref.specs.Keys.{key_bytes}
 use Rattle.sshkey_model.specs.Reading.{whole}
 use Rattle.sshkey_calls.proofs.Digests.{fingerprint_found, memory_out}
-use Rattle.sshkey_calls.proofs.Kept.{kept_bytes}
-use Rattle.sshkey_calls.proofs.Outcomes.{refused}
+use Rattle.sshkey_calls.proofs.Rooms.{kept_bytes, refused}
 use Rattle.sshkey_calls.proofs.key.find_fingerprint.Goals as goal
 
 pub returns-in-Err : goal.returns-in-Err

@@ -4,11 +4,11 @@ use Rattle.sshkey_model.specs.Reading.{Front}
 use Rattle.sshkey_model.proofs.CertificateReaders.{certificate_reads}
 use Rattle.sshkey_model.proofs.Grammars.{grammar, one_front}
 use Rattle.sshkey_base.proofs.Accepted.{spelled_whole}
-use Rattle.sshkey_cert.proofs.CertificateReaders.{certificate_grammar}
+use Rattle.sshkey_cert.proofs.Certificates.{certificate_grammar}
 use Rattle.sshkey_keys.proofs.KeyReaders.{key_grammar}
 use Rattle.sshkey_keys.proofs.SignatureReaders.{signature_grammar}
 use Rattle.sshkey_sshsig.proofs.SshSignatureTrees.{ssh_signature_grammar}
-use Rattle.sshkey_calls.specs.Outcomes.{HasOneOutcome}
+use Rattle.sshkey_calls.specs.Rooms.{HasOneOutcome}
 use Rattle.sshkey_calls.proofs.laws.one_outcome.Goals as goal
 
 by_grammar : {V : Type 0} {Spells : V → List ℕ → Type 0} {read : Front V} → IsGrammar Spells read → HasOneOutcome Spells read

@@ -1,5 +1,5 @@
 use Rattle.std.proofs.Common.{Some, None}
-use Rattle.sshkey_public.proofs.Cuts.{only_cut}
+use Rattle.sshkey_public.proofs.ReadLines.{only_cut}
 use Rattle.sshkey_calls.proofs.line.first_word.Goals as goal
 
 pub returns-in-Some : goal.returns-in-Some

@@ -2,8 +2,8 @@ use Rattle.std.proofs.Common.{refl}
 use Rattle.sshkey_base.specs.Causes.{cause}
 use Rattle.sshkey_model.specs.Lines.{IsLineOf, name_of_certificate}
 use Rattle.sshkey_model.specs.Certificates.{SpellsCertificate}
-use Rattle.sshkey_cert.specs.CertificateValues.{certificate_of}
-use Rattle.sshkey_calls.proofs.Kept.{only_memory}
+use Rattle.sshkey_cert.specs.Certificates.{certificate_of}
+use Rattle.sshkey_calls.proofs.Rooms.{only_memory}
 use Rattle.sshkey_calls.proofs.KeyLines.{certificate_has_none, fault_told, memory_of, needs_certificate, needs_certificate_line, reads_certificate}
 use Rattle.sshkey_calls.proofs.line.read_certificate.Goals as goal
 

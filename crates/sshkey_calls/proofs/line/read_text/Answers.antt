@@ -3,7 +3,7 @@ use Rattle.sshkey_base.specs.Causes.{cause}
 use Rattle.sshkey_model.specs.Lines.{IsLineOf, key_name}
 use Rattle.sshkey_keys.specs.Keys.{key_of}
 use Rattle.sshkey_model.specs.Keys.{SpellsKey}
-use Rattle.sshkey_calls.proofs.Kept.{only_memory}
+use Rattle.sshkey_calls.proofs.Rooms.{only_memory}
 use Rattle.sshkey_calls.proofs.KeyLines.{key_has_none, needs_key, needs_key_line, no_memory, reads_key}
 use Rattle.sshkey_calls.proofs.line.read_text.Goals as goal
 

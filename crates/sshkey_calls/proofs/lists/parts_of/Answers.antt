@@ -1,7 +1,6 @@
 use Rattle.std.proofs.Common.{◌∙◌, ap, arith, length, subst}
 use Rattle.sshkey_cert_ref.specs.CertificateRef.{certificate_bytes, certificate_of, choices_of}
-use Rattle.sshkey_cert_ref.specs.OptionLists.{SpellsEachOption}
-use Rattle.sshkey_cert_ref.specs.TextLists.{SpellsEachText}
+use Rattle.sshkey_cert_ref.specs.Lists.{SpellsEachOption, SpellsEachText}
 use Rattle.sshkey_cert_ref.proofs.Certificates.{spelled_by}
 use Rattle.sshkey_model.specs.Keys.{SpellsKey}
 use Rattle.sshkey_model.specs.Certificates.{Certificate, CertificateChoices}

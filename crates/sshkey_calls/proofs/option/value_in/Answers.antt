@@ -1,5 +1,5 @@
 use Rattle.std.proofs.Common.{◌≡◌, ◌≢◌, length, rules}
-use Rattle.sshkey_calls.proofs.OptionValues.{empty_value, more_after, no_string}
+use Rattle.sshkey_calls.proofs.Options.{empty_value, more_after, no_string}
 use Rattle.sshkey_calls.proofs.option.value_in.Goals as goal
 
 pub returns-then-is_empty-clause-value : goal.returns-then-is_empty-clause-value

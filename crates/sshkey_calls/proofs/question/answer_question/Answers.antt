@@ -1,6 +1,6 @@
 use Rattle.std.proofs.Common.{option_map, refl}
 use Rattle.sshkey_keys.specs.Questions.{question_of}
-use Rattle.sshkey_calls.proofs.Questions.{none_told, question_told}
+use Rattle.sshkey_calls.proofs.Signatures.{none_told, question_told}
 use Rattle.sshkey_calls.proofs.question.answer_question.Goals as goal
 
 pub returns-in-Some : goal.returns-in-Some

@@ -1,6 +1,6 @@
 use Rattle.std.proofs.Common.{Option, refl, subst}
 use Rattle.sshkey_model.specs.Verification as model
-use Rattle.sshkey_calls.specs.Questions.{TellsQuestion}
+use Rattle.sshkey_calls.specs.Signatures.{TellsQuestion}
 use Rattle.sshkey_calls.proofs.Rooms.{no_memory}
 use Rattle.sshkey_calls.proofs.question.ask.Goals as goal
 

@@ -1,6 +1,6 @@
 use Rattle.std.proofs.Common.{Option, subst}
 use Rattle.sshkey_model.specs.Verification as model
-use Rattle.sshkey_calls.specs.Questions.{TellsQuestion}
+use Rattle.sshkey_calls.specs.Signatures.{TellsQuestion}
 use Rattle.sshkey_calls.proofs.question.write_question.Goals as goal
 
 pub returns : goal.returns

@@ -2,9 +2,9 @@ use Rattle.std.proofs.Common.{Option, subst, ◌∙◌}
 use Rattle.sshkey_model.specs.Verification as model
 use Rattle.sshkey_keys.specs.Keys.{key_of}
 use Rattle.sshkey_keys.specs.Signatures.{signature_of}
-use Rattle.sshkey_keys_ref.specs.KeyDataRef.{key_bytes}
-use Rattle.sshkey_keys_ref.specs.SignatureRef.{signature_bytes}
-use Rattle.sshkey_calls.specs.Questions.{TellsQuestion}
+use Rattle.sshkey_keys_ref.specs.Keys.{key_bytes}
+use Rattle.sshkey_keys_ref.specs.Signatures.{signature_bytes}
+use Rattle.sshkey_calls.specs.Signatures.{TellsQuestion}
 use Rattle.sshkey_calls.proofs.Signatures.{same_question}
 use Rattle.sshkey_calls.proofs.signature.ask.Goals as goal
 

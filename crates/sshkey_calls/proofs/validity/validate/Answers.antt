@@ -3,7 +3,7 @@ use Rattle.sshkey_cert_ref.specs.CertificateRef.{certificate_bytes, certificate_
 use Rattle.sshkey_model.specs.Certificates.{certificate_at}
 use Rattle.sshkey_model.specs.Reading.{whole}
 use Rattle.sshkey_calls.specs.Validations.{authorities_of}
-use Rattle.sshkey_calls.proofs.Kept.{kept_bytes, never_memory, no_fault}
+use Rattle.sshkey_calls.proofs.Rooms.{kept_bytes, never_memory, no_fault}
 use Rattle.sshkey_calls.proofs.Validations.{first_told, renamed_in}
 use Rattle.sshkey_calls.proofs.validity.validate.Goals as goal
 

@@ -1,5 +1,5 @@
 use Rattle.std.proofs.Common.{ap, length, eqb-true, eq-eqb, sym, ◌∙◌}
-use Rattle.sshkey_cert.specs.CertificateValues.{certificate_of}
+use Rattle.sshkey_cert.specs.Certificates.{certificate_of}
 use Rattle.sshkey_cert.proofs.form.is_normal_form.Goals as goal
 
 pub returns-in-Ok : goal.returns-in-Ok

@@ -2,7 +2,7 @@ use Rattle.std.proofs.Common.{◌≡◌, ℕ, List, refl, ap, sym}
 use Rattle.std.proofs.lemmas.Bool.Decides.{Decides-and, Decides-like}
 use Rattle.std.proofs.lemmas.Slice.Eq.{bytes_eq-Decides}
 use Rattle.sshkey_model.specs.Certificates as model
-use Rattle.sshkey_cert.specs.Comparisons.{content_of}
+use Rattle.sshkey_cert.specs.Certificates.{content_of}
 use Rattle.sshkey_base.proofs.Comparisons.{both, after, last_of_all}
 use Rattle.sshkey_cert.proofs.laws.compared_certificates.Goals as goal
 

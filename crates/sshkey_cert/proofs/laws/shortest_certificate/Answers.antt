@@ -1,4 +1,4 @@
-use Rattle.sshkey_cert.proofs.Shortest.{only_shortest, shortest}
+use Rattle.sshkey_cert.proofs.NormalForms.{only_shortest, shortest}
 use Rattle.sshkey_cert.proofs.laws.shortest_certificate.Goals as goal
 
 pub returns-clause-shortest : goal.returns-clause-shortest

@@ -3,9 +3,9 @@ use Rattle.std.proofs.lemmas.Result.{err_from_is_err_and}
 use Rattle.sshkey_base.specs.Causes.{cause}
 use Rattle.sshkey_model.specs.CertificateNames.{certified_from}
 use Rattle.sshkey_model.specs.Names.{Dsa}
-use Rattle.sshkey_cert_ref.specs.Spelled.{certified_in}
+use Rattle.sshkey_cert_ref.specs.Certificates.{certified_in}
 use Rattle.sshkey_cert_ref.specs.declared.certificate_name.CertificateName.{CertificateName}
-use Rattle.sshkey_cert_ref.proofs.Subjects.{are_judged, is_refused, is_known}
+use Rattle.sshkey_cert_ref.proofs.Certificates.{are_judged, is_refused, is_known}
 use Rattle.sshkey_cert_ref.proofs.certificate_name.checked_name.Goals as goal
 
 pub returns-in_err-check_certificate : goal.returns-in_err-check_certificate

@@ -4,7 +4,7 @@ use Rattle.sshkey_model.specs.Reading.{whole, box_at}
 use Rattle.sshkey_model.specs.Signatures.{signature_at}
 use Rattle.sshkey_base.specs.Causes.{cause, same_cause}
 use Rattle.sshkey_cert_ref.proofs.LengthPrefixed.{kept_signature, signature_is, spelled_signature_of}
-use Rattle.sshkey_cert_ref.proofs.BoxedBytes.{box_bytes, no_string, in_string}
+use Rattle.sshkey_cert_ref.proofs.OptionLists.{box_bytes, no_string, in_string}
 use Rattle.sshkey_cert_ref.proofs.leaves.split_signature.Goals as goal
 
 pub returns-in_err-string : goal.returns-in_err-string

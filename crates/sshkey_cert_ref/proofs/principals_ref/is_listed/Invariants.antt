@@ -1,7 +1,7 @@
 use Rattle.std.proofs.Common.{◌≡◌, length, true, bytes_eq}
 use Rattle.std.specs.List.{list_any}
 use Rattle.sshkey_model.specs.Texts.{text_list_at}
-use Rattle.sshkey_cert_ref.specs.TextLists.{texts_in}
+use Rattle.sshkey_cert_ref.specs.Lists.{texts_in}
 use Rattle.sshkey_terms.specs.Slices.{is_taken}
 use Rattle.sshkey_cert_ref.proofs.principals_ref.is_listed.Given as goal
 

@@ -4,14 +4,11 @@ use Rattle.sshkey_base.proofs.Steps.{refuses_first}
 use Rattle.sshkey_model.specs.CertificateNames.{certified_from}
 use Rattle.sshkey_model.specs.Keys.{body_at}
 use Rattle.sshkey_model.specs.Names.{Dsa}
-use Rattle.sshkey_cert_values.specs.CertTypes.{type_of}
-use Rattle.sshkey_cert_values.specs.Times.{time_of, end_of}
-use Rattle.sshkey_cert_ref.specs.Spelled.{certified_in}
+use Rattle.sshkey_cert_values.specs.CertificateFields.{type_of, time_of, end_of}
+use Rattle.sshkey_cert_ref.specs.Certificates.{certified_in, spelled_key_of}
 use Rattle.sshkey_cert_ref.specs.Views.{texts_of, spelled_options_of}
-use Rattle.sshkey_cert_ref.specs.Fields.{spelled_key_of}
 use Rattle.sshkey_cert_ref.proofs.LengthPrefixed.{key_is}
-use Rattle.sshkey_cert_ref.proofs.Fields.{after_key_format, fields_at, fields_are, opening_format}
-use Rattle.sshkey_cert_ref.proofs.Subjects.{known, certified_body, refused_body, named_key, key_bytes}
+use Rattle.sshkey_cert_ref.proofs.Certificates.{after_key_format, fields_at, fields_are, opening_format, known, certified_body, refused_body, named_key, key_bytes}
 use Rattle.sshkey_cert_ref.proofs.walk.split_parts.Goals as goal
 
 pub returns-in_err-opening : goal.returns-in_err-opening

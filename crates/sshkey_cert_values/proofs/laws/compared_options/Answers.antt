@@ -5,7 +5,7 @@ use Rattle.std.proofs.lemmas.Bool.Decides.{Decides-and, Decides-like}
 use Rattle.std.proofs.lemmas.Slice.Eq.{bytes_eq-Decides, slice_eq-Decides}
 use Rattle.sshkey_model.specs.Options.{CertificateOption}
 use Rattle.sshkey_cert_values.specs.Comparisons.{option_cmp}
-use Rattle.sshkey_cert_values.specs.OptionMaps.{option_of, options_of}
+use Rattle.sshkey_cert_values.specs.CertificateFields.{option_of, options_of}
 use Rattle.sshkey_cert_values.proofs.laws.compared_options.Goals as goal
 
 -- the two texts are the same

@@ -1,7 +1,7 @@
 use Rattle.std.proofs.Common.{◌≡◌, sym, ◌∙◌, cond, Bool, ap}
 use Rattle.sshkey_model.specs.KeyDerivation.{tag_size}
 use Rattle.sshkey_ciphers.specs.Ciphers.{cipher_of}
-use Rattle.sshkey_ciphers.proofs.Tags.{no_tag}
+use Rattle.sshkey_ciphers.proofs.Ciphertexts.{no_tag}
 use Rattle.sshkey_ciphers.proofs.ciphertext.tag_from.Goals as goal
 
 pub returns-then-not-has_tag-clause-gives : goal.returns-then-not-has_tag-clause-gives

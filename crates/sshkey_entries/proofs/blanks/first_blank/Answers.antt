@@ -1,4 +1,4 @@
-use Rattle.sshkey_entries.specs.OptionEnds.{is_blank}
+use Rattle.sshkey_entries.specs.Fields.{is_blank}
 use Rattle.sshkey_entries.proofs.ByteLines.{first_place}
 use Rattle.sshkey_entries.proofs.blanks.first_blank.Goals as goal
 

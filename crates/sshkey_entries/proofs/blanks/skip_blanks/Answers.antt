@@ -1,6 +1,6 @@
 use Rattle.std.proofs.Common.{◌∙◌, ap, not, position, sym}
-use Rattle.sshkey_entries.specs.OptionEnds.{is_blank}
-use Rattle.sshkey_entries.proofs.BlankPlaces.{blank_ascii}
+use Rattle.sshkey_entries.specs.Fields.{is_blank}
+use Rattle.sshkey_entries.proofs.Fields.{blank_ascii}
 use Rattle.sshkey_entries.proofs.Fronts.{left_from, left_place, nothing_left}
 use Rattle.sshkey_entries.proofs.blanks.skip_blanks.Goals as goal
 

@@ -1,6 +1,6 @@
 use Rattle.std.proofs.Common.{ap, position, ◌∙◌}
-use Rattle.sshkey_entries.specs.OptionEnds.{is_blank}
-use Rattle.sshkey_entries.proofs.BlankPlaces.{blank_ascii, cuts_field}
+use Rattle.sshkey_entries.specs.Fields.{is_blank}
+use Rattle.sshkey_entries.proofs.Fields.{blank_ascii, cuts_field}
 use Rattle.sshkey_entries.proofs.Fronts.{cut_at, end_place, uncut}
 use Rattle.sshkey_entries.proofs.blanks.split_blank.Goals as goal
 

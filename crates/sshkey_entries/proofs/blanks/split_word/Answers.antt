@@ -1,4 +1,4 @@
-use Rattle.sshkey_entries.proofs.BlankPlaces.{white_place}
+use Rattle.sshkey_entries.proofs.Fields.{white_place}
 use Rattle.sshkey_entries.proofs.blanks.split_word.Goals as goal
 
 pub range-requires-clause-end_boundary : goal.range-requires-clause-end_boundary

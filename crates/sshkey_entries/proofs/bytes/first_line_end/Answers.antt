@@ -1,4 +1,4 @@
-use Rattle.sshkey_entries.specs.ByteLines.{is_line_end}
+use Rattle.sshkey_entries.specs.Entries.{is_line_end}
 use Rattle.sshkey_entries.proofs.ByteLines.{first_place}
 use Rattle.sshkey_entries.proofs.bytes.first_line_end.Goals as goal
 

@@ -1,7 +1,7 @@
 use Rattle.std.proofs.Common.{sym, ◌∙◌}
 use Rattle.std.proofs.lemmas.List.{take_rest}
 use Rattle.sshkey_entries.proofs.Fronts.{left_from, nothing_left}
-use Rattle.sshkey_entries.specs.OptionEnds.{is_blank}
+use Rattle.sshkey_entries.specs.Fields.{is_blank}
 use Rattle.sshkey_entries.proofs.bytes.skip_blanks.Goals as goal
 
 pub returns-in-Some : goal.returns-in-Some

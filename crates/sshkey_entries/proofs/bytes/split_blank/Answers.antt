@@ -1,5 +1,5 @@
-use Rattle.sshkey_entries.specs.OptionEnds.{is_blank}
-use Rattle.sshkey_entries.proofs.BlankPlaces.{cuts_field}
+use Rattle.sshkey_entries.specs.Fields.{is_blank}
+use Rattle.sshkey_entries.proofs.Fields.{cuts_field}
 use Rattle.sshkey_entries.proofs.Fronts.{cut_at, uncut}
 use Rattle.sshkey_entries.proofs.bytes.split_blank.Goals as goal
 

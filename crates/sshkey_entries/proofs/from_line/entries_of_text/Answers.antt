@@ -1,6 +1,6 @@
 use Rattle.std.proofs.Common.{ap, inl, inr, ◌∙◌, ◌++◌, List, ℕ}
 use Rattle.std.proofs.lemmas.Result.{err_from_is_err_and}
-use Rattle.sshkey_entries.proofs.AnswerLists.{answered_more, needed_first}
+use Rattle.sshkey_entries.proofs.TextLines.{answered_more, needed_first}
 use Rattle.sshkey_entries.proofs.from_line.entries_of_text.Goals as goal
 
 pub loop-line-preserved : goal.loop-line-preserved

@@ -4,14 +4,11 @@ use Rattle.sshkey_keys.specs.Keys.{key_of}
 use Rattle.sshkey_model.specs.Keys.{SpellsKey}
 use Rattle.sshkey_keys.specs.declared.key_data.KeyData.{KeyData}
 use Rattle.sshkey_model.specs.Lines.{key_name}
-use Rattle.sshkey_public.specs.LineNeeds.{NeedsWord}
+use Rattle.sshkey_public.specs.Lines.{NeedsWord, IsNoWord, IsWordOf}
 use Rattle.sshkey_model.specs.Keys.{key_format}
-use Rattle.sshkey_public.specs.Lines.{IsNoWord, IsWordOf}
 use Rattle.sshkey_public.specs.PublicKeys.{public_of, comment_of}
-use Rattle.sshkey_entries.specs.Fields.{without_blanks}
-use Rattle.sshkey_entries.specs.KeyFields.{IsKept}
-use Rattle.sshkey_entries.proofs.FieldKeys.{no_length, no_word, bad_word, other_name, fields_read, word_needed, comment_needed}
-use Rattle.sshkey_entries.proofs.KeyTexts.{name_no_text, word_no_text}
+use Rattle.sshkey_entries.specs.Fields.{without_blanks, IsKept}
+use Rattle.sshkey_entries.proofs.KeyFields.{no_length, no_word, bad_word, other_name, fields_read, word_needed, comment_needed, name_no_text, word_no_text}
 use Rattle.sshkey_entries.proofs.key_fields.read_key_bytes.Goals as goal
 
 pub returns-then-is_empty-clause-reads : goal.returns-then-is_empty-clause-reads

@@ -6,7 +6,7 @@ use Rattle.sshkey_keys.specs.declared.key_data.KeyData.{KeyData}
 use Rattle.sshkey_model.specs.Lines.{key_name}
 use Rattle.sshkey_public.specs.Lines.{IsWordOf}
 use Rattle.sshkey_public.specs.PublicKeys.{public_of, comment_of}
-use Rattle.sshkey_entries.proofs.FieldKeys.{no_length, some_length, no_word, bad_word, other_name, fields_read, missing, odd_key, named_otherwise, word_needed, comment_needed}
+use Rattle.sshkey_entries.proofs.KeyFields.{no_length, some_length, no_word, bad_word, other_name, fields_read, missing, odd_key, named_otherwise, word_needed, comment_needed}
 use Rattle.sshkey_entries.proofs.key_fields.read_key_fields.Goals as goal
 
 pub returns-then-is_empty-clause-reads : goal.returns-then-is_empty-clause-reads

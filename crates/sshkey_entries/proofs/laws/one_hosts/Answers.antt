@@ -1,4 +1,4 @@
-use Rattle.sshkey_entries.proofs.OneHost.{one_hosts}
+use Rattle.sshkey_entries.proofs.OneEntry.{one_hosts}
 use Rattle.sshkey_entries.proofs.laws.one_hosts.Goals as goal
 
 pub returns : goal.returns

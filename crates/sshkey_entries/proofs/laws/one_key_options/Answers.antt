@@ -1,4 +1,4 @@
-use Rattle.sshkey_entries.proofs.OneOption.{one_options}
+use Rattle.sshkey_entries.proofs.OptionItems.{one_options}
 use Rattle.sshkey_entries.proofs.laws.one_key_options.Goals as goal
 
 pub returns : goal.returns

@@ -1,4 +1,4 @@
-use Rattle.sshkey_entries.proofs.OneHost.{one_host}
+use Rattle.sshkey_entries.proofs.OneEntry.{one_host}
 use Rattle.sshkey_entries.proofs.laws.one_known_host.Goals as goal
 
 pub returns : goal.returns

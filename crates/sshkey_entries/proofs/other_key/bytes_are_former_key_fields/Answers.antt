@@ -1,5 +1,5 @@
 use Rattle.std.proofs.Common.{sym, ◌∙◌}
-use Rattle.sshkey_entries.proofs.KeyTexts.{former_name_text, other_word_text}
+use Rattle.sshkey_entries.proofs.KeyFields.{former_name_text, other_word_text}
 use Rattle.sshkey_entries.proofs.OtherKeys.{named_under, read_under}
 use Rattle.sshkey_entries.specs.OtherKeys.{IsFormerName}
 use Rattle.sshkey_entries.proofs.other_key.bytes_are_former_key_fields.Goals as goal

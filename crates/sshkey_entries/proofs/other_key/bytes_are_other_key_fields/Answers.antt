@@ -1,5 +1,5 @@
 use Rattle.std.proofs.Common.{sym, ◌∙◌}
-use Rattle.sshkey_entries.proofs.KeyTexts.{other_name_text, other_word_text}
+use Rattle.sshkey_entries.proofs.KeyFields.{other_name_text, other_word_text}
 use Rattle.sshkey_entries.proofs.OtherKeys.{named_under, read_under}
 use Rattle.sshkey_entries.specs.OtherKeys.{IsOtherName}
 use Rattle.sshkey_entries.proofs.other_key.bytes_are_other_key_fields.Goals as goal

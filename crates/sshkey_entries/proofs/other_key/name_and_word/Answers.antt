@@ -1,6 +1,6 @@
 use Rattle.std.proofs.Common.{sym, subst}
 use Rattle.std.specs.Str.{IsUtf8}
-use Rattle.sshkey_entries.proofs.FieldKeys.{same_word}
+use Rattle.sshkey_entries.proofs.KeyFields.{same_word}
 use Rattle.sshkey_entries.proofs.other_key.name_and_word.Goals as goal
 
 pub returns-in_default : goal.returns-in_default

@@ -1,5 +1,5 @@
 use Rattle.std.proofs.Common.{None, Some}
-use Rattle.sshkey_entries.proofs.Tables.{is_after, is_found, is_none_left, not_so}
+use Rattle.sshkey_entries.proofs.OptionItems.{is_after, is_found, is_none_left, not_so}
 use Rattle.sshkey_entries.proofs.words.find_word.Goals as goal
 
 pub returns-then-is_same : goal.returns-then-is_same

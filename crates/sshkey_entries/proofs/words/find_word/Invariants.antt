@@ -1,5 +1,5 @@
 use Rattle.std.specs.Prelude.{Option, drop, map}
-use Rattle.sshkey_entries.specs.Words.{FindsWord, row_of}
+use Rattle.sshkey_entries.specs.OptionItems.{FindsWord, row_of}
 use Rattle.sshkey_entries.proofs.words.find_word.Given as goal
 
 -- what the rows that are left find is found

@@ -1,7 +1,7 @@
 use Rattle.std.proofs.Common.{◌∙◌, ℕ, List, [], ◌∷◌, ◌++◌, None, Some, ap, lit<, refl, sym}
 use Rattle.std.proofs.lemmas.Str.Pattern.{split_after, split_parts, strip_prefix_char}
 use Rattle.sshkey_entry_calls.specs.Destinations.{closing_bracket, colon}
-use Rattle.sshkey_entry_calls.proofs.Parts.{empty, no_colon_behind, no_port_at_end, no_port_behind, port_behind, same_destination}
+use Rattle.sshkey_entry_calls.proofs.Destinations.{empty, no_colon_behind, no_port_at_end, no_port_behind, port_behind, same_destination}
 use Rattle.sshkey_entry_calls.proofs.destination.read_bracketed.Goals as goal
 
 pub returns-in_default : goal.returns-in_default

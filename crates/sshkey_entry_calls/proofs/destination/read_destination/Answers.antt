@@ -1,7 +1,7 @@
 use Rattle.std.proofs.Common.{None, Some, lit<}
 use Rattle.std.proofs.lemmas.Str.Pattern.{strip_prefix_char}
 use Rattle.sshkey_entry_calls.specs.Destinations.{opening_bracket}
-use Rattle.sshkey_entry_calls.proofs.Parts.{in_brackets, plain}
+use Rattle.sshkey_entry_calls.proofs.Destinations.{in_brackets, plain}
 use Rattle.sshkey_entry_calls.proofs.destination.read_destination.Goals as goal
 
 pub returns-in-Some : goal.returns-in-Some

@@ -1,7 +1,7 @@
 use Rattle.std.proofs.Common.{◌∙◌, None, Some, lit<, sym}
 use Rattle.std.proofs.lemmas.Str.Pattern.{contains_char, split_after, split_parts}
 use Rattle.sshkey_entry_calls.specs.Destinations.{colon}
-use Rattle.sshkey_entry_calls.proofs.Parts.{alone, no_plain, no_second, one_plain}
+use Rattle.sshkey_entry_calls.proofs.Destinations.{alone, no_plain, no_second, one_plain}
 use Rattle.sshkey_entry_calls.proofs.destination.read_plain.Goals as goal
 
 pub returns-in_default : goal.returns-in_default

@@ -1,11 +1,9 @@
 use Rattle.std.proofs.Common.{inl, inr, refl}
 use Rattle.sshkey_base.specs.Causes.{cause}
-use Rattle.sshkey_authorized_keys.specs.OpenSshEntries.{openssh_entry_of}
-use Rattle.sshkey_authorized_keys.specs.OpenSshFaults.{HasLineFault}
+use Rattle.sshkey_authorized_keys.specs.OpenSshEntries.{openssh_entry_of, HasLineFault}
 use Rattle.sshkey_entries.specs.OpenSshLines.{IsAuthorizedLine}
 use Rattle.sshkey_entry_calls.specs.Entries.{of_authorized_key}
-use Rattle.sshkey_calls.proofs.Kept.{only_memory}
-use Rattle.sshkey_calls.proofs.Rooms.{give_one}
+use Rattle.sshkey_calls.proofs.Rooms.{only_memory, give_one}
 use Rattle.sshkey_entry_calls.proofs.Found.{no_fault, none_found, told}
 use Rattle.sshkey_entry_calls.proofs.entries.authorized_entry_of.Goals as goal
 

@@ -1,11 +1,9 @@
 use Rattle.std.proofs.Common.{refl}
 use Rattle.sshkey_base.specs.Causes.{cause}
-use Rattle.sshkey_known_hosts.specs.HostEntries.{known_host_of}
-use Rattle.sshkey_known_hosts.specs.OpenSshHosts.{HasLineFault}
+use Rattle.sshkey_known_hosts.specs.HostEntries.{known_host_of, HasLineFault}
 use Rattle.sshkey_entries.specs.OpenSshLines.{IsHostLine}
 use Rattle.sshkey_entry_calls.specs.Entries.{of_known_host}
-use Rattle.sshkey_calls.proofs.Kept.{only_memory}
-use Rattle.sshkey_calls.proofs.Rooms.{give_one}
+use Rattle.sshkey_calls.proofs.Rooms.{only_memory, give_one}
 use Rattle.sshkey_known_hosts.proofs.HostLines.{entry_needs}
 use Rattle.sshkey_entry_calls.proofs.Found.{no_fault, none_found, told}
 use Rattle.sshkey_entry_calls.proofs.entries.known_host_of.Goals as goal

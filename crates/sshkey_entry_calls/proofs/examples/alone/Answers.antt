@@ -1,6 +1,6 @@
 use Rattle.std.proofs.Common.{ap, arith, inl, inr, refl}
 use Rattle.std.specs.Prelude.{get_or}
-use Rattle.sshkey_entry_calls.proofs.Colons.{none_in_one, two_at_front, two_within}
+use Rattle.sshkey_entry_calls.proofs.Destinations.{none_in_one, two_at_front, two_within}
 use Rattle.sshkey_entry_calls.proofs.examples.alone.Goals as goal
 
 pub returns : goal.returns

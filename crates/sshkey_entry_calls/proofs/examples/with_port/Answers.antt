@@ -1,7 +1,7 @@
 use Rattle.std.proofs.Common.{ap, arith, inl, inr, length, refl}
 use Rattle.std.specs.Prelude.{codes, get_or}
 use Rattle.sshkey_entry_calls.specs.Destinations.{IsPort}
-use Rattle.sshkey_entry_calls.proofs.Colons.{after_h, after_nothing}
+use Rattle.sshkey_entry_calls.proofs.Destinations.{after_h, after_nothing}
 use Rattle.sshkey_entry_calls.proofs.examples.with_port.Goals as goal
 
 at_22 : IsPort (codes "22") 22

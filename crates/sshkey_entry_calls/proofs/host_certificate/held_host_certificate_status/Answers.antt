@@ -2,7 +2,7 @@ use denote.Ref.{Bor}
 use Rattle.std.proofs.Common.{List, ℕ, subst}
 use Rattle.host_keys.specs.Hosts.{lines_of}
 use Rattle.sshkey_entry_calls.specs.Hosts.{JudgesCertificate, held_lines}
-use Rattle.sshkey_entry_calls.proofs.OtherLines.{certificate_there}
+use Rattle.sshkey_entry_calls.proofs.Hosts.{certificate_there}
 use Rattle.sshkey_entry_calls.proofs.host_certificate.held_host_certificate_status.Goals as goal
 
 pub returns-clause-verdict : goal.returns-clause-verdict

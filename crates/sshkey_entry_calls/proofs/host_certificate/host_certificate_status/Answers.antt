@@ -2,10 +2,10 @@ use Rattle.std.proofs.Common.{◌≡◌, subst}
 use Rattle.host_keys.specs.Answers.{RefusesHostCertificate}
 use Rattle.host_keys.specs.Hosts as hosts
 use Rattle.host_keys.specs.Hosts.{IsHostCertificate, lines_of}
-use Rattle.sshkey_entry_calls.specs.RevocationFiles.{are_read, one_revokes, one_revokes_key, reads_of}
+use Rattle.sshkey_entry_calls.specs.Revocations.{are_read, one_revokes, one_revokes_key, reads_of}
 use Rattle.sshkey_known_hosts.specs.Hmac.{hmac_sha1}
 use Rattle.sshkey_entry_calls.specs.Hosts.{IsJudgedBy, login_with}
-use Rattle.sshkey_entry_calls.proofs.Judged.{known_as}
+use Rattle.sshkey_entry_calls.proofs.Hosts.{known_as}
 use Rattle.sshkey_entry_calls.proofs.host_certificate.host_certificate_status.Goals as goal
 
 pub returns-clause-verdict : goal.returns-clause-verdict

@@ -2,7 +2,7 @@ use denote.Ref.{Bor}
 use Rattle.std.proofs.Common.{List, ℕ, subst}
 use Rattle.host_keys.specs.Hosts.{lines_of}
 use Rattle.sshkey_entry_calls.specs.Hosts.{TellsKey, held_lines}
-use Rattle.sshkey_entry_calls.proofs.OtherLines.{key_there}
+use Rattle.sshkey_entry_calls.proofs.Hosts.{key_there}
 use Rattle.sshkey_entry_calls.proofs.host_key.held_host_key_status.Goals as goal
 
 pub returns : goal.returns

@@ -2,14 +2,14 @@ use Rattle.std.proofs.Common.{◌≡◌, subst}
 use Rattle.host_keys.specs.Answers.{RefusesHostKey}
 use Rattle.host_keys.specs.Hosts as hosts
 use Rattle.host_keys.specs.Hosts.{IsHostKey, lines_of}
-use Rattle.sshkey_entry_calls.specs.RevocationFiles.{are_read, one_revokes_key, reads_of}
+use Rattle.sshkey_entry_calls.specs.Revocations.{are_read, one_revokes_key, reads_of}
 use Rattle.sshkey_keys.specs.Keys.{key_of}
-use Rattle.sshkey_keys_ref.specs.KeyDataRef.{key_bytes}
+use Rattle.sshkey_keys_ref.specs.Keys.{key_bytes}
 use Rattle.sshkey_known_hosts.specs.Hmac.{hmac_sha1}
 use Rattle.sshkey_model.specs.Keys.{Key}
 use Rattle.sshkey_model.proofs.Blobs.{key_blobs}
 use Rattle.sshkey_entry_calls.specs.Hosts.{IsJudged, login_with}
-use Rattle.sshkey_entry_calls.proofs.Judged.{for_others, judged_as}
+use Rattle.sshkey_entry_calls.proofs.Hosts.{for_others, judged_as}
 use Rattle.sshkey_entry_calls.proofs.host_key.host_key_status.Goals as goal
 
 pub returns : goal.returns

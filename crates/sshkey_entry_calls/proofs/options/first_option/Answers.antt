@@ -1,5 +1,5 @@
 use Rattle.std.proofs.Common.{Some, subst, sym}
-use Rattle.sshkey_authorized_keys.specs.OpenSshItems.{YieldsOption}
+use Rattle.sshkey_authorized_keys.specs.Options.{YieldsOption}
 use Rattle.sshkey_entry_calls.specs.Options.{FindsFirst}
 use Rattle.sshkey_entry_calls.proofs.EntryOptions.{first_of}
 use Rattle.sshkey_entry_calls.proofs.options.first_option.Goals as goal

@@ -1,5 +1,5 @@
 use Rattle.std.proofs.Common.{sym, ap, ◌∙◌, not, cond, Bool, slice_index, arith, eqb-true}
-use Rattle.sshkey_entries.proofs.OptionEnds.{inside_first, inside_more}
+use Rattle.sshkey_entries.proofs.OptionItems.{inside_first, inside_more}
 use Rattle.sshkey_entry_calls.proofs.OptionPlaces.{none_more}
 use Rattle.sshkey_entry_calls.proofs.options.option_end.Goals as goal
 use Rattle.sshkey_entry_calls.proofs.options.option_end.Goals.{else-bytes-place-eq44-via-then-bytes-place-eq44+else-not-is_inside, else-bytes-place-eq44-via-else-bytes-place-eq44, then-is_plain_quote, else-is_plain_quote}

@@ -1,5 +1,5 @@
 use Rattle.std.proofs.Common.{◌≡◌}
-use Rattle.sshkey_entries.specs.OptionEnds.{is_inside}
+use Rattle.sshkey_entries.specs.Fields.{is_inside}
 use Rattle.sshkey_entry_calls.proofs.OptionPlaces.{NoEndBefore}
 use Rattle.sshkey_entry_calls.proofs.options.option_end.Given as goal
 

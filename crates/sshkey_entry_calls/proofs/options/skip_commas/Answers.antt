@@ -1,7 +1,7 @@
 use Rattle.std.proofs.Common.{◌∙◌, sym}
 use Rattle.sshkey_entries.specs.Items.{is_comma}
 use Rattle.sshkey_entries.proofs.Fronts.{left_from, nothing_left}
-use Rattle.sshkey_calls.proofs.Strings.{whole_slice}
+use Rattle.sshkey_calls.proofs.Places.{whole_slice}
 use Rattle.sshkey_entry_calls.proofs.options.skip_commas.Goals as goal
 
 pub returns-in-Some : goal.returns-in-Some

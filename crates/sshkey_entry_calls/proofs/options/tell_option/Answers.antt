@@ -1,4 +1,4 @@
-use Rattle.sshkey_authorized_keys.specs.OpenSshItems.{key_option_of}
+use Rattle.sshkey_authorized_keys.specs.Options.{key_option_of}
 use Rattle.sshkey_calls.proofs.Rooms.{answered}
 use Rattle.sshkey_entry_calls.proofs.EntryOptions.{told, told_none}
 use Rattle.sshkey_entry_calls.proofs.options.tell_option.Goals as goal

@@ -1,4 +1,4 @@
-use Rattle.sshkey_entry_calls.specs.RevocationFiles.{IsReadOf}
+use Rattle.sshkey_entry_calls.specs.Revocations.{IsReadOf}
 use Rattle.sshkey_entry_calls.proofs.RevokedFiles.{read_next}
 use Rattle.sshkey_entry_calls.proofs.revocation_files.read_more.Goals as goal
 

@@ -1,6 +1,6 @@
 use Rattle.std.proofs.Common.{take}
 use Rattle.std.specs.List.{AllZip}
-use Rattle.sshkey_entry_calls.specs.RevocationFiles.{IsReadOf}
+use Rattle.sshkey_entry_calls.specs.Revocations.{IsReadOf}
 use Rattle.sshkey_entry_calls.proofs.revocation_files.read_more.Given as goal
 
 -- what reading the files so far gave

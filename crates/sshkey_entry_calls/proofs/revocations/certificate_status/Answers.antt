@@ -1,5 +1,5 @@
 use Rattle.sshkey_base.specs.Causes.{cause}
-use Rattle.sshkey_calls.proofs.Kept.{only_memory}
+use Rattle.sshkey_calls.proofs.Rooms.{only_memory}
 use Rattle.sshkey_calls.proofs.Revocations.{none_told}
 use Rattle.sshkey_entry_calls.proofs.revocations.certificate_status.Goals as goal
 

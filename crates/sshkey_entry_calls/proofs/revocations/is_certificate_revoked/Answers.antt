@@ -3,7 +3,7 @@ use Rattle.std.proofs.lemmas.Result.{err_from_is_err_and}
 use Rattle.sshkey_cert_ref.specs.CertificateRef.{certificate_of}
 use Rattle.sshkey_model.specs.Keys.{Key, normal_key}
 use Rattle.sshkey_model.specs.Parts.{flat}
-use Rattle.sshkey_entry_calls.specs.RevocationFiles.{one_revokes, reads_of}
+use Rattle.sshkey_entry_calls.specs.Revocations.{one_revokes, reads_of}
 use Rattle.sshkey_entry_calls.proofs.RevokedFiles.{certificate_said}
 use Rattle.sshkey_entry_calls.proofs.revocations.is_certificate_revoked.Goals as goal
 

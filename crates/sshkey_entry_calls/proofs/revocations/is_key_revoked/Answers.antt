@@ -1,9 +1,9 @@
 use Rattle.std.proofs.lemmas.Result.{err_from_is_err_and}
 use Rattle.sshkey_base.specs.Causes.{cause}
 use Rattle.sshkey_model.specs.Keys.{key_data_at}
-use Rattle.sshkey_keys_ref.specs.KeyDataRef.{key_bytes}
+use Rattle.sshkey_keys_ref.specs.Keys.{key_bytes}
 use Rattle.sshkey_model.specs.Reading.{whole}
-use Rattle.sshkey_calls.proofs.Kept.{kept_bytes}
+use Rattle.sshkey_calls.proofs.Rooms.{kept_bytes}
 use Rattle.sshkey_calls.proofs.Revocations.{renamed_key}
 use Rattle.sshkey_entry_calls.proofs.revocations.is_key_revoked.Goals as goal
 

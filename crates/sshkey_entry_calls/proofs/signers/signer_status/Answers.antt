@@ -1,5 +1,5 @@
 use Rattle.std.proofs.Common.{[]}
-use Rattle.sshkey_entry_calls.specs.RevocationFiles.{one_revokes_key, reads_of, revoked_status}
+use Rattle.sshkey_entry_calls.specs.Revocations.{one_revokes_key, reads_of, revoked_status}
 use Rattle.sshkey_entry_calls.proofs.RevokedFiles.{high_number}
 use Rattle.sshkey_entry_calls.proofs.SignerVerdicts.{judged}
 use Rattle.sshkey_entry_calls.proofs.signers.signer_status.Goals as goal

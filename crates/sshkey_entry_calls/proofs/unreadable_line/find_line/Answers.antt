@@ -1,5 +1,5 @@
 use Rattle.std.proofs.Common.{ℕ, Option, subst}
-use Rattle.sshkey_entry_calls.specs.UnreadableLines.{IsUnreadableLine}
+use Rattle.sshkey_entry_calls.specs.Hosts.{IsUnreadableLine}
 use Rattle.sshkey_entry_calls.proofs.unreadable_line.find_line.Goals as goal
 
 pub returns-clause-line : goal.returns-clause-line

@@ -1,6 +1,6 @@
 use Rattle.std.proofs.lemmas.Result.{err_from_is_err_and}
 use Rattle.ssh_key.specs.model.Keys.{key_data_at}
-use Rattle.ssh_key.specs.keys_ref.KeyDataRef.{key_bytes}
+use Rattle.ssh_key.specs.keys_ref.Keys.{key_bytes}
 use Rattle.ssh_key.specs.model.Reading.{whole}
 use Rattle.sshkey_examples.proofs.Faults.{kept_fault}
 use Rattle.sshkey_examples.proofs.key_blob.read_key.Goals as goal

@@ -1,5 +1,5 @@
 use Rattle.sshkey_base.specs.Causes.{cause}
-use Rattle.sshkey_keys_ref.proofs.Accepting.{passed, certified_grammar}
+use Rattle.sshkey_keys_ref.proofs.Acceptance.{passed, certified_grammar}
 use Rattle.sshkey_keys_ref.proofs.body.skip_body.Goals as goal
 
 pub returns-clause-spelled : goal.returns-clause-spelled

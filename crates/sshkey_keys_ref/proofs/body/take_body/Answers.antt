@@ -1,4 +1,4 @@
-use Rattle.sshkey_keys_ref.proofs.Slices.{front_is, leaves}
+use Rattle.sshkey_keys_ref.proofs.WalkedBodies.{front_is, leaves}
 use Rattle.sshkey_keys_ref.proofs.body.take_body.Goals as goal
 
 pub slice_bounds-result-count : goal.slice_bounds-result-count

@@ -1,6 +1,6 @@
 use Rattle.std.proofs.Common.{arith, ◌∙◌, ◌-◌, drop, length, take_all}
 use Rattle.std.proofs.lemmas.List.{length-drop}
-use Rattle.sshkey_keys_ref.proofs.Dispatching.{blob_after}
+use Rattle.sshkey_keys_ref.proofs.Signatures.{blob_after}
 use Rattle.sshkey_keys_ref.proofs.dispatch.blob_in.Goals as goal
 
 pub returns-in_default : goal.returns-in_default

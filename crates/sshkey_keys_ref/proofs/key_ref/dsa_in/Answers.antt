@@ -1,5 +1,5 @@
 use Rattle.sshkey_model.specs.Keys.{dsa_format}
-use Rattle.sshkey_keys_ref.proofs.KeysByKind.{same_value, never}
+use Rattle.sshkey_keys_ref.proofs.Keys.{same_value, never}
 use Rattle.sshkey_keys_ref.proofs.key_ref.dsa_in.Goals as goal
 
 pub returns-in-Some : goal.returns-in-Some

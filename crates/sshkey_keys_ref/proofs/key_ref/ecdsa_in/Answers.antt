@@ -1,4 +1,4 @@
-use Rattle.sshkey_keys_ref.proofs.KeysByKind.{ecdsa_found, ecdsa_refused}
+use Rattle.sshkey_keys_ref.proofs.Keys.{ecdsa_found, ecdsa_refused}
 use Rattle.sshkey_keys_ref.proofs.key_ref.ecdsa_in.Goals as goal
 
 pub returns-in-Some : goal.returns-in-Some

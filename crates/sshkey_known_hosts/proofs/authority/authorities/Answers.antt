@@ -1,6 +1,6 @@
 use Rattle.std.proofs.Common.{◌≡◌, rules, List, ℕ, [], ◌∷◌, ◌++◌, ap, sym, subst, ◌∙◌, append_assoc, append-nil}
 use Rattle.sshkey_entries.specs.Fields.{filled_lines}
-use Rattle.sshkey_entries.specs.HostNames.{known_name}
+use Rattle.sshkey_entries.specs.HostVerdicts.{known_name}
 use Rattle.sshkey_known_hosts.specs.Verdicts.{AreAuthorities, AreInOrder, IsAuthorityLine}
 use Rattle.sshkey_known_hosts.proofs.AuthorityKeys.{in_any_order, no_more, one_more}
 use Rattle.sshkey_known_hosts.proofs.Verdicts.{no_lines}

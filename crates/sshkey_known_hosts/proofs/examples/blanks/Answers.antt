@@ -1,9 +1,9 @@
 use Rattle.std.proofs.Common.{ℕ, None, Some, List, [], ◌∷◌, ◌++◌, codes, inl, inr, refl, arith}
-use Rattle.sshkey_entries.specs.Fronts.{without_front}
+use Rattle.sshkey_entries.specs.Fields.{without_front}
 use Rattle.sshkey_entries.specs.KnownHosts.{Patterns, Revoked}
 use Rattle.sshkey_model.specs.KeyExamples.{ed25519_key}
 use Rattle.sshkey_model.proofs.LineTests.{lacks}
-use Rattle.sshkey_matching.specs.Commas.{patterns}
+use Rattle.sshkey_matching.specs.Patterns.{patterns}
 use Rattle.sshkey_known_hosts.specs.Examples.{host, key_text}
 use Rattle.sshkey_known_hosts.proofs.ExampleLemmas.{field, host_fits, host_is, own_fields, read, said}
 use Rattle.sshkey_known_hosts.proofs.examples.blanks.Goals as goal

@@ -1,5 +1,5 @@
 use Rattle.std.proofs.Common.{◌≢◌, ℕ, List, [], ◌∷◌, ◌++◌, codes, inl, inr, refl, arith}
-use Rattle.sshkey_entries.specs.Fronts.{without_front}
+use Rattle.sshkey_entries.specs.Fields.{without_front}
 use Rattle.sshkey_entries.specs.KnownHosts.{CertAuthority, Revoked, marker_text}
 use Rattle.sshkey_known_hosts.specs.Examples.{host, key_text}
 use Rattle.sshkey_known_hosts.specs.Hmac.{hmac_sha1}

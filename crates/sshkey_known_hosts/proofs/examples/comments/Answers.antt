@@ -2,12 +2,12 @@ use Rattle.std.proofs.Common.{None, Some, ◌∷◌, ◌++◌, ap, codes, inr, l
 use Rattle.std.specs.Char.{encode_utf8}
 use Rattle.std.specs.Str.{IsUtf8, chars, is_utf8}
 use Rattle.std.proofs.lemmas.Str.{IsUtf8-from_is_utf8, is_utf8-from_IsUtf8}
-use Rattle.sshkey_entries.specs.Fronts.{without_front}
+use Rattle.sshkey_entries.specs.Fields.{without_front}
 use Rattle.sshkey_entries.specs.KnownHosts.{Patterns, Revoked}
 use Rattle.sshkey_model.specs.KeyExamples.{ed25519_key}
 use Rattle.sshkey_model.specs.Lines.{space}
 use Rattle.sshkey_model.proofs.LineTests.{lacks}
-use Rattle.sshkey_matching.specs.Commas.{patterns}
+use Rattle.sshkey_matching.specs.Patterns.{patterns}
 use Rattle.sshkey_known_hosts.specs.Examples.{host, key_text, latin, line, revoking}
 use Rattle.sshkey_known_hosts.proofs.ExampleLemmas.{field, host_fits, host_is, never, own_fields, read, said}
 use Rattle.sshkey_known_hosts.proofs.examples.comments.Goals as goal

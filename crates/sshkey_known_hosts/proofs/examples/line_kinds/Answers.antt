@@ -2,11 +2,11 @@ use Rattle.std.proofs.Common.{[], None, Some, codes, refl, sym}
 use Rattle.sshkey_entries.specs.KnownHosts.{CertAuthority, Patterns}
 use Rattle.sshkey_model.specs.KeyExamples.{ed25519_key}
 use Rattle.sshkey_public.specs.PublicKeys.{public_of}
-use Rattle.sshkey_matching.specs.Commas.{patterns}
+use Rattle.sshkey_matching.specs.Patterns.{patterns}
 use Rattle.sshkey_known_hosts.specs.Examples.{by_line, host}
 use Rattle.sshkey_known_hosts.specs.Hmac.{hmac_sha1}
 use Rattle.sshkey_known_hosts.proofs.ExampleLemmas.{after_hosts, for_others, host_fits, host_is, host_line, never, other_host, parts, unnamed_elsewhere, without_key}
-use Rattle.sshkey_known_hosts.proofs.NamedHosts.{tells_none}
+use Rattle.sshkey_known_hosts.proofs.Hosts.{tells_none}
 use Rattle.sshkey_known_hosts.proofs.Verdicts.{same_entry}
 use Rattle.sshkey_known_hosts.proofs.examples.line_kinds.Goals as goal
 

@@ -1,14 +1,13 @@
 use Rattle.std.proofs.Common.{◌≡◌, ◌∙◌, [], ◌∷◌, ◌++◌, ℕ, List, None, ap, append-nil, arith, length, refl, subst, sym, take}
 use Rattle.std.proofs.Math.Seq.{drop-length}
 use Rattle.std.proofs.lemmas.List.{take_all}
-use Rattle.sshkey_entries.specs.Fields.{filled_lines}
-use Rattle.sshkey_entries.specs.Fronts.{without_front}
+use Rattle.sshkey_entries.specs.Fields.{filled_lines, without_front}
 use Rattle.sshkey_model.specs.KeyExamples.{ed25519_key}
 use Rattle.sshkey_known_hosts.specs.Examples.{host, line}
 use Rattle.sshkey_known_hosts.specs.HeldExamples.{place}
 use Rattle.sshkey_known_hosts.specs.HeldNames.{IsAmong, TellsNames, name_hash}
 use Rattle.sshkey_known_hosts.specs.Hmac.{hmac_sha1}
-use Rattle.sshkey_known_hosts.specs.LinePlaces.{ArePlacesOf}
+use Rattle.sshkey_known_hosts.specs.HeldLines.{ArePlacesOf}
 use Rattle.sshkey_known_hosts.proofs.ExampleLemmas.{said_of_host}
 use Rattle.sshkey_known_hosts.proofs.HeldNames.{among_all}
 use Rattle.sshkey_known_hosts.proofs.examples.line_places.Goals as goal

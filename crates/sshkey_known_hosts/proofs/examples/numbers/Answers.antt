@@ -1,5 +1,5 @@
 use Rattle.std.proofs.Common.{◌≡◌, [], ◌∷◌, codes, inl, inr, refl, arith}
-use Rattle.sshkey_entries.specs.Fronts.{without_front}
+use Rattle.sshkey_entries.specs.Fields.{without_front}
 use Rattle.sshkey_known_hosts.proofs.ExampleLemmas.{differ, never, without_key}
 use Rattle.sshkey_known_hosts.proofs.Verdicts.{either, only}
 use Rattle.sshkey_known_hosts.proofs.examples.numbers.Goals as goal

@@ -1,5 +1,5 @@
 use Rattle.std.proofs.Common.{refl}
-use Rattle.sshkey_matching.specs.Commas.{patterns}
+use Rattle.sshkey_matching.specs.Patterns.{patterns}
 use Rattle.sshkey_known_hosts.specs.Examples.{named, unnamed}
 use Rattle.sshkey_known_hosts.proofs.ExampleLemmas.{each_named, each_unnamed}
 use Rattle.sshkey_known_hosts.proofs.examples.patterns.Goals as goal

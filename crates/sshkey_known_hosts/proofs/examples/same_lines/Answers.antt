@@ -2,7 +2,7 @@ use Rattle.std.proofs.Common.{[], ◌∷◌, None, Some, arith, codes, refl}
 use Rattle.sshkey_entries.specs.KnownHosts.{CertAuthority, Patterns}
 use Rattle.sshkey_model.specs.KeyExamples.{ed25519_key}
 use Rattle.sshkey_entries.specs.HostVerdicts.{HidesEntry, Lists}
-use Rattle.sshkey_matching.specs.Commas.{patterns}
+use Rattle.sshkey_matching.specs.Patterns.{patterns}
 use Rattle.sshkey_known_hosts.specs.Examples.{broken_line, by_line, host, line}
 use Rattle.sshkey_known_hosts.specs.Hmac.{hmac_sha1}
 use Rattle.sshkey_known_hosts.proofs.ExampleLemmas.{after_hosts, for_others, host_fits, host_line, other_host, parts, said_of_host, without_key}

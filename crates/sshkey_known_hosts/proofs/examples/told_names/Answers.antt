@@ -1,9 +1,9 @@
 use Rattle.std.proofs.Common.{[], ◌∷◌, None, codes, arith, refl}
-use Rattle.sshkey_entries.specs.Fronts.{without_front}
+use Rattle.sshkey_entries.specs.Fields.{without_front}
 use Rattle.sshkey_entries.specs.HostVerdicts.{HidesEntry, Lists}
 use Rattle.sshkey_entries.specs.KnownHosts.{Patterns}
 use Rattle.sshkey_model.specs.KeyExamples.{ed25519_key}
-use Rattle.sshkey_matching.specs.Commas.{patterns}
+use Rattle.sshkey_matching.specs.Patterns.{patterns}
 use Rattle.sshkey_known_hosts.specs.Examples.{broken_line, host, line}
 use Rattle.sshkey_known_hosts.specs.HeldNames.{IsAmong, SayNothing, name_hash}
 use Rattle.sshkey_known_hosts.specs.Hmac.{hmac_sha1}

@@ -1,8 +1,7 @@
 use Rattle.std.proofs.Common.{◌≡◌, ◌∙◌, ◌++◌, ◌∷◌, [], List, ℕ, ap, subst, sym}
-use Rattle.sshkey_entries.specs.HostNames.{known_name, standard_port}
-use Rattle.sshkey_known_hosts.specs.HeldLines.{lines_of}
+use Rattle.sshkey_entries.specs.HostVerdicts.{known_name, standard_port}
+use Rattle.sshkey_known_hosts.specs.HeldLines.{lines_of, SaySame}
 use Rattle.sshkey_known_hosts.specs.HeldNames.{IsAmong, name_hash}
-use Rattle.sshkey_known_hosts.specs.SameLines.{SaySame}
 use Rattle.sshkey_known_hosts.proofs.HeldLines.{all_held, kept, left_out}
 use Rattle.sshkey_known_hosts.proofs.held.texts_for.Goals as goal
 use Rattle.sshkey_known_hosts.proofs.held.texts_for.Goals.{then-is_perhaps_for+in_ok-push, else-is_perhaps_for+else-is_perhaps_for-2}

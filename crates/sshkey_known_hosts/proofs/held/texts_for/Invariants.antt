@@ -1,7 +1,6 @@
 use Rattle.std.proofs.Common.{ℕ, List, take}
-use Rattle.sshkey_entries.specs.HostNames.{known_name, standard_port}
-use Rattle.sshkey_known_hosts.specs.HeldLines.{held_lines, lines_of}
-use Rattle.sshkey_known_hosts.specs.SameLines.{SaySame}
+use Rattle.sshkey_entries.specs.HostVerdicts.{known_name, standard_port}
+use Rattle.sshkey_known_hosts.specs.HeldLines.{held_lines, lines_of, SaySame}
 use Rattle.sshkey_known_hosts.proofs.held.texts_for.Given as goal
 
 -- the texts say the same of both names as the lines so far

@@ -1,5 +1,5 @@
 use Rattle.std.proofs.Common.{List, ℕ, inl, inr, subst, sym, ◌∙◌, option_map}
-use Rattle.sshkey_entries.specs.KeyFields.{IsKept}
+use Rattle.sshkey_entries.specs.Fields.{IsKept}
 use Rattle.sshkey_entries.specs.OtherKeys.{AreForeignKeyFields}
 use Rattle.sshkey_public.specs.PublicKeys.{comment_of, public_of}
 use Rattle.sshkey_known_hosts.specs.HostEntries.{marker_of}

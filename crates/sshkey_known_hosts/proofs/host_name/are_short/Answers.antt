@@ -1,6 +1,6 @@
 use Rattle.std.proofs.Common.{IsTrue, refl, sym, subst, ◌∙◌, arith}
 use Rattle.sshkey_entries.specs.Patterns.{IsShortPattern}
-use Rattle.sshkey_known_hosts.proofs.SomeOf.{one_more}
+use Rattle.sshkey_known_hosts.proofs.Hosts.{one_more}
 use Rattle.sshkey_known_hosts.proofs.host_name.are_short.Goals as goal
 
 pub returns-then-not-is_short_pattern : goal.returns-then-not-is_short_pattern

@@ -1,7 +1,7 @@
 use Rattle.std.proofs.Common.{sym, subst, ◌∙◌}
 use Rattle.std.specs.Char.{to_ascii_lowercase}
 use Rattle.sshkey_entries.specs.Patterns.{MatchesNegated}
-use Rattle.sshkey_known_hosts.proofs.SomeOf.{none_more, none_of}
+use Rattle.sshkey_known_hosts.proofs.Hosts.{none_more, none_of}
 use Rattle.sshkey_known_hosts.proofs.host_name.some_refuses.Goals as goal
 
 pub loop-pattern-preserved : goal.loop-pattern-preserved

@@ -1,6 +1,6 @@
 use Rattle.std.proofs.Common.{IsTrue, refl, sym, subst, ◌∙◌, arith}
-use Rattle.sshkey_public.specs.OneLine.{IsOneLine}
-use Rattle.sshkey_known_hosts.proofs.SomeOf.{one_more}
+use Rattle.sshkey_public.specs.WrittenLines.{IsOneLine}
+use Rattle.sshkey_known_hosts.proofs.Hosts.{one_more}
 use Rattle.sshkey_known_hosts.proofs.host_patterns.are_one_line.Goals as goal
 
 pub returns-then-not-is_one_line : goal.returns-then-not-is_one_line

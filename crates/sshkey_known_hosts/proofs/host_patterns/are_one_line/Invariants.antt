@@ -1,5 +1,5 @@
 use Rattle.std.proofs.Common.{ℕ, List, ◌<◌, get_or}
-use Rattle.sshkey_public.specs.OneLine.{IsOneLine}
+use Rattle.sshkey_public.specs.WrittenLines.{IsOneLine}
 use Rattle.sshkey_known_hosts.proofs.host_patterns.are_one_line.Given as goal
 
 -- the texts so far are one line each

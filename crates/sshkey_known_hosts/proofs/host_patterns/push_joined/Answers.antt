@@ -1,5 +1,5 @@
 use Rattle.std.proofs.Common.{sym, ap, ◌∙◌, ◌++◌, List, ℕ, arith, string_bytes}
-use Rattle.sshkey_known_hosts.proofs.Joins.{grown, begun}
+use Rattle.sshkey_known_hosts.proofs.Entries.{grown, begun}
 use Rattle.sshkey_known_hosts.proofs.host_patterns.push_joined.Goals as goal
 use Rattle.sshkey_known_hosts.proofs.host_patterns.push_joined.Goals.{then-index-gt0+in_ok-push, else-index-gt0}
 

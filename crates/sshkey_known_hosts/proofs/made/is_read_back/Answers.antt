@@ -1,6 +1,6 @@
 use Rattle.std.proofs.Common.{sym, subst, ◌∙◌}
 use Rattle.sshkey_entries.specs.KnownHosts.{IsKnownHost}
-use Rattle.sshkey_entries.proofs.OneHost.{one_host}
+use Rattle.sshkey_entries.proofs.OneEntry.{one_host}
 use Rattle.sshkey_known_hosts.specs.HostEntries.{known_host_of}
 use Rattle.sshkey_known_hosts.proofs.made.is_read_back.Goals as goal
 

@@ -3,7 +3,7 @@ use Rattle.std.proofs.lemmas.Bool.{eqb-false, eqb-true}
 use Rattle.std.proofs.lemmas.Bool.Decides.{Decides-eqb}
 use Rattle.std.proofs.lemmas.Slice.Eq.{strip_prefix_is}
 use Rattle.sshkey_entries.specs.KnownHosts.{IsMarkedHashed, hashed_mark}
-use Rattle.sshkey_known_hosts.proofs.NamedHosts.{tells_none, tells_patterns}
+use Rattle.sshkey_known_hosts.proofs.Hosts.{tells_none, tells_patterns}
 use Rattle.sshkey_known_hosts.proofs.named_hosts.are_for.Goals as goal
 
 pub returns-then-is_empty : goal.returns-then-is_empty

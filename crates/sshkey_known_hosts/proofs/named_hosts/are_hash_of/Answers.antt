@@ -1,7 +1,7 @@
 use Rattle.std.proofs.Common.{◌++◌, List, ℕ, subst}
 use Rattle.sshkey_entries.specs.KnownHosts.{hashed_mark}
-use Rattle.sshkey_known_hosts.proofs.NamedHosts.{no_text_hash}
-use Rattle.sshkey_known_hosts.specs.NamedHosts.{TellsHosts}
+use Rattle.sshkey_known_hosts.proofs.Hosts.{no_text_hash}
+use Rattle.sshkey_known_hosts.specs.HostLines.{TellsHosts}
 use Rattle.sshkey_known_hosts.proofs.named_hosts.are_hash_of.Goals as goal
 
 pub returns-in-Some : goal.returns-in-Some

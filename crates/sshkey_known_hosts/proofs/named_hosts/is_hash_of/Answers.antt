@@ -2,8 +2,7 @@ use Rattle.std.proofs.Common.{◌≡◌, ◌++◌, ◌∙◌, eqb-true, inr, ref
 use Rattle.sshkey_base.specs.declared.encoding.Error.TheVariants.{Base64, Length}
 use Rattle.sshkey_base.specs.declared.error.Error.TheVariants.{Encoding, FormatEncoding}
 use Rattle.sshkey_entries.specs.KnownHosts.{hashed_mark}
-use Rattle.sshkey_known_hosts.proofs.Hosts.{no_bar_fault, salt_fault, hash_fault, size_fault, hashed, refused_is_none}
-use Rattle.sshkey_known_hosts.proofs.NamedHosts.{tells_hash, tells_same}
+use Rattle.sshkey_known_hosts.proofs.Hosts.{no_bar_fault, salt_fault, hash_fault, size_fault, hashed, refused_is_none, tells_hash, tells_same}
 use Rattle.sshkey_known_hosts.proofs.named_hosts.is_hash_of.Goals as goal
 
 pub returns-in_err-salt : goal.returns-in_err-salt

@@ -1,5 +1,5 @@
 use Rattle.std.proofs.Common.{List, ℕ, subst}
-use Rattle.sshkey_known_hosts.specs.NamedHosts.{ReadsTwenty}
+use Rattle.sshkey_known_hosts.specs.HostLines.{ReadsTwenty}
 use Rattle.sshkey_known_hosts.proofs.Wholes.{no_groups, word_read}
 use Rattle.sshkey_known_hosts.proofs.named_hosts.read_twenty.Goals as goal
 

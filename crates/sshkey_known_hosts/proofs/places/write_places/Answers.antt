@@ -2,9 +2,9 @@ use Rattle.std.proofs.Common.{◌≡◌, ◌∙◌, ◌<◌, ◌-◌, ◌++◌, 
 use Rattle.std.proofs.lemmas.List.{length-set, take_all, take_more_set}
 use Rattle.std.specs.Str.Lines.{lines}
 use Rattle.sshkey_entries.proofs.ByteLines.{no_lines_left}
-use Rattle.sshkey_known_hosts.specs.LinePlaces.{ArePlacesOf}
+use Rattle.sshkey_known_hosts.specs.HeldLines.{ArePlacesOf}
 use Rattle.sshkey_known_hosts.specs.declared.places.LinePlace.{LinePlace}
-use Rattle.sshkey_known_hosts.proofs.LinePlaces.{first_alone, nothing, one_before}
+use Rattle.sshkey_known_hosts.proofs.HeldLines.{first_alone, nothing, one_before}
 use Rattle.sshkey_known_hosts.proofs.places.write_places.Goals as goal
 
 pub lines-preserved : goal.lines-preserved

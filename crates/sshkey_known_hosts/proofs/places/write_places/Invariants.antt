@@ -1,6 +1,6 @@
 use Rattle.std.proofs.Common.{◌≡◌, ◌+◌, ◌++◌, List, length, take}
 use Rattle.std.specs.Str.Lines.{lines}
-use Rattle.sshkey_known_hosts.specs.LinePlaces.{ArePlacesOf}
+use Rattle.sshkey_known_hosts.specs.HeldLines.{ArePlacesOf}
 use Rattle.sshkey_known_hosts.specs.declared.places.LinePlace.{LinePlace}
 use Rattle.sshkey_known_hosts.proofs.places.write_places.Given as goal
 

@@ -3,9 +3,9 @@ use Rattle.std.proofs.lemmas.List.{length-append}
 use Rattle.std.specs.List.{Any}
 use Rattle.std.specs.Str.Lines.{lines}
 use Rattle.sshkey_entries.proofs.ByteLines.{left_smaller, no_lines_left}
-use Rattle.sshkey_entries.specs.HostNames.{known_name}
+use Rattle.sshkey_entries.specs.HostVerdicts.{known_name}
 use Rattle.sshkey_known_hosts.proofs.UnreadableLines.{none_filled, none_more}
-use Rattle.sshkey_known_hosts.specs.UnreadableLines.{HidesEntryIn}
+use Rattle.sshkey_known_hosts.specs.Verdicts.{HidesEntryIn}
 use Rattle.sshkey_known_hosts.proofs.unreadable.unreadable_line.Goals as goal
 
 pub returns-then-not-has_lines-clause-answer : goal.returns-then-not-has_lines-clause-answer

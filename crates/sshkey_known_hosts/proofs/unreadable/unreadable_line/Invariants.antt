@@ -1,8 +1,8 @@
 use Rattle.std.proofs.Common.{◌≡◌, ◌≤◌, ◌+◌, ◌++◌, List, ℕ, length}
 use Rattle.std.specs.List.{Any}
 use Rattle.std.specs.Str.Lines.{lines}
-use Rattle.sshkey_entries.specs.HostNames.{known_name}
-use Rattle.sshkey_known_hosts.specs.UnreadableLines.{HidesEntryIn}
+use Rattle.sshkey_entries.specs.HostVerdicts.{known_name}
+use Rattle.sshkey_known_hosts.specs.Verdicts.{HidesEntryIn}
 use Rattle.sshkey_known_hosts.proofs.unreadable.unreadable_line.Given as goal
 
 -- the lines that were counted, none of which hides an entry, and those that are left

@@ -1,6 +1,6 @@
 use Rattle.std.proofs.Common.{◌≡◌, ◌++◌, List, ℕ}
 use Rattle.sshkey_entries.specs.Fields.{filled_lines}
-use Rattle.sshkey_entries.specs.HostNames.{known_name}
+use Rattle.sshkey_entries.specs.HostVerdicts.{known_name}
 use Rattle.sshkey_keys.specs.Keys.{key_of}
 use Rattle.sshkey_known_hosts.specs.Verdicts.{IsVerdict}
 use Rattle.sshkey_known_hosts.proofs.verdict.key_verdict.Given as goal

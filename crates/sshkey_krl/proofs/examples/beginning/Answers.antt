@@ -2,7 +2,7 @@ use Rattle.std.proofs.Common.{refl}
 use Rattle.std.specs.Int.Count.{count_leading_zeros}
 use Rattle.sshkey_model.specs.Parts.{flat}
 use Rattle.sshkey_model.specs.Reading.{after_at, box_at, bytes_at, list_within, literal_at, number_at, string_at}
-use Rattle.sshkey_krl.specs.Serials.{significant}
+use Rattle.sshkey_krl.specs.Revocation.{significant}
 use Rattle.sshkey_krl.proofs.examples.beginning.Goals as goal
 
 pub returns : goal.returns

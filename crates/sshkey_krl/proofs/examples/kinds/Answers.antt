@@ -1,6 +1,6 @@
 use Rattle.std.proofs.Common.{refl}
 use Rattle.std.specs.Int.Count.{count_leading_zeros}
-use Rattle.sshkey_krl.specs.Serials.{significant}
+use Rattle.sshkey_krl.specs.Revocation.{significant}
 use Rattle.sshkey_krl.proofs.examples.kinds.Goals as goal
 
 pub returns : goal.returns

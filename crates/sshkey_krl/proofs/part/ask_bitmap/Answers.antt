@@ -2,7 +2,7 @@ use Rattle.std.proofs.Common.{refl}
 use Rattle.std.proofs.lemmas.Result.{err_from_is_err_and}
 use Rattle.sshkey_base.specs.Causes.{cause, encoding_cause, same_cause}
 use Rattle.sshkey_krl.specs.Query.{query_of}
-use Rattle.sshkey_krl.specs.Serials.{Bitmap}
+use Rattle.sshkey_krl.specs.Revocation.{Bitmap}
 use Rattle.sshkey_krl.proofs.Parts.{bitmap_ends, no_begin, no_bitmap, no_bits}
 use Rattle.sshkey_krl.proofs.part.ask_bitmap.Goals as goal
 

@@ -3,7 +3,7 @@ use Rattle.std.proofs.lemmas.Bool.{eqb-true, eqb-false}
 use Rattle.std.proofs.lemmas.Result.{err_from_is_err_and}
 use Rattle.sshkey_base.specs.Causes.{cause}
 use Rattle.sshkey_krl.specs.Query.{query_of, says}
-use Rattle.sshkey_krl.specs.Sections.{section_format}
+use Rattle.sshkey_krl.specs.Krls.{section_format}
 use Rattle.sshkey_krl.proofs.Asking.{asks_end, asks_on, asks_refused, asks_shorter, begin}
 use Rattle.sshkey_krl.proofs.Lawful.{section_lawful, section_shows}
 use Rattle.sshkey_krl.proofs.section.any_section.Goals as goal

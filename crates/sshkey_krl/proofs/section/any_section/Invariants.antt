@@ -1,6 +1,6 @@
 use Rattle.std.proofs.Common.{◌≡◌, length}
 use Rattle.sshkey_krl.specs.Query.{query_of, says}
-use Rattle.sshkey_krl.specs.Sections.{section_format}
+use Rattle.sshkey_krl.specs.Krls.{section_format}
 use Rattle.sshkey_krl.proofs.Asking.{Walks}
 use Rattle.sshkey_krl.proofs.section.any_section.Given as goal
 

@@ -1,5 +1,5 @@
 use Rattle.std.proofs.Common.{◌≡◌, length}
-use Rattle.sshkey_krl.specs.Serials.{significant}
+use Rattle.sshkey_krl.specs.Revocation.{significant}
 use Rattle.sshkey_krl.proofs.serials.significant.Given as goal
 
 abbrev pub invariant-zeros : goal.invariant-zeros

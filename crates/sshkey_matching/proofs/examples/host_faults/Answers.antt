@@ -4,7 +4,7 @@ use Rattle.std.specs.Net.Addr.{ipv4_bits, ipv6_bits}
 use Rattle.std.specs.Net.Reader.{read_ipv4, read_ipv6, read_number, read_octet, read_segment, read_segments}
 use Rattle.std.specs.Net.Text.{hex, hex_groups_text, ipv6_text}
 use Rattle.sshkey_matching.specs.HostExamples.{unasked}
-use Rattle.sshkey_matching.proofs.HostTests.{each_fault, is_asked}
+use Rattle.sshkey_matching.proofs.AskedHosts.{each_fault, is_asked}
 use Rattle.sshkey_matching.proofs.Tables.{never}
 use Rattle.sshkey_matching.proofs.examples.host_faults.Goals as goal
 

@@ -5,7 +5,7 @@ use Rattle.std.specs.Net.Addr.{ipv4_bits, ipv6_bits}
 use Rattle.std.specs.Net.Reader.{read_ipv4, read_ipv6, read_number, read_octet, read_segment, read_segments}
 use Rattle.std.specs.Net.Text.{hex, hex_groups_text, ipv6_text}
 use Rattle.sshkey_matching.specs.AddressExamples.{ipv6}
-use Rattle.sshkey_matching.proofs.HostTests.{decides_one, is_text_of, was_text_of}
+use Rattle.sshkey_matching.proofs.AskedHosts.{decides_one, is_text_of, was_text_of}
 use Rattle.sshkey_matching.proofs.Tables.{never}
 use Rattle.sshkey_matching.proofs.TextTests.{address_of}
 use Rattle.sshkey_matching.proofs.examples.one_text.Goals as goal

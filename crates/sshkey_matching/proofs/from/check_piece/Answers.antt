@@ -1,6 +1,6 @@
 use Rattle.std.proofs.Common.{sym, ◌∙◌}
 use Rattle.sshkey_matching.specs.FromLists.{Client}
-use Rattle.sshkey_matching.proofs.Marks.{with_mark, without_mark}
+use Rattle.sshkey_matching.proofs.FromLists.{with_mark, without_mark}
 use Rattle.sshkey_matching.proofs.from.check_piece.Goals as goal
 
 pub returns-then-is_negated : goal.returns-then-is_negated

@@ -1,8 +1,7 @@
 use Rattle.std.proofs.Common.{◌≡◌, ℕ, List, [], ◌∷◌, Option, Bor, ap, ◌∙◌, rules}
 use Rattle.sshkey_matching.specs.FromLists.{Client, IsFromPiece, Names, Refuses}
 use Rattle.sshkey_matching.specs.SourceAddresses.{pieces, pieces_of}
-use Rattle.sshkey_matching.proofs.Lets.{lets_from}
-use Rattle.sshkey_matching.proofs.Pieces.{all_less, all_last, not_all, one_less}
+use Rattle.sshkey_matching.proofs.FromLists.{lets_from, all_less, all_last, not_all, one_less}
 use Rattle.sshkey_matching.proofs.from.check_pieces.Goals as goal
 
 pub returns-in_default : goal.returns-in_default

@@ -4,7 +4,7 @@ use denote.Shadow.{shadow}
 use denote.Text.{Utf8}
 use Rattle.sshkey_matching.specs.FromLists.{Client, IsFromPiece, Names, Refuses}
 use Rattle.sshkey_matching.specs.SourceAddresses.{pieces}
-use Rattle.sshkey_matching.proofs.Pieces.{IsFoundOrIn}
+use Rattle.sshkey_matching.proofs.FromLists.{IsFoundOrIn}
 use Rattle.sshkey_matching.proofs.from.check_pieces.Given as goal
 
 -- what was found, and what is left

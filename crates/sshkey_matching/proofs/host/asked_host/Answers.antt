@@ -1,7 +1,7 @@
 use Rattle.std.proofs.Common.{◌≡◌, true, inl, inr, sym, ap, subst, ◌∙◌, rules}
 use Rattle.std.proofs.NetLemmas.Theorems.{IsIpText_unique}
 use Rattle.sshkey_matching.specs.AskedHosts.{HasOneText}
-use Rattle.sshkey_matching.specs.Likeness.{is_like_address}
+use Rattle.sshkey_matching.specs.FromLists.{is_like_address}
 use Rattle.sshkey_matching.proofs.host.asked_host.Goals as goal
 
 pub returns-then-not-has_one_text : goal.returns-then-not-has_one_text

@@ -1,6 +1,6 @@
 use Rattle.std.proofs.Common.{◌+◌, length, arith, tests, drop, ap, sym, ◌∙◌}
 use Rattle.std.proofs.lemmas.List.{drop-drop}
-use Rattle.sshkey_matching.specs.LetterCases.{fold_of}
+use Rattle.sshkey_matching.specs.Patterns.{fold_of}
 use Rattle.sshkey_matching.proofs.Matching.{found_star, not_here}
 use Rattle.sshkey_matching.proofs.pattern.after_first.Goals as goal
 

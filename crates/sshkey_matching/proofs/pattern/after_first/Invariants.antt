@@ -1,6 +1,5 @@
 use Rattle.std.proofs.Common.{◌≡◌, ℕ, ◌<◌, length, drop}
-use Rattle.sshkey_matching.specs.Patterns.{Matches}
-use Rattle.sshkey_matching.specs.LetterCases.{fold_of}
+use Rattle.sshkey_matching.specs.Patterns.{Matches, fold_of}
 use Rattle.sshkey_matching.proofs.pattern.after_first.Given as goal
 
 -- the pattern matches at no place before this one

@@ -1,4 +1,4 @@
-use Rattle.sshkey_matching.specs.LetterCases.{fold_of}
+use Rattle.sshkey_matching.specs.Patterns.{fold_of}
 use Rattle.sshkey_matching.proofs.Matching.{goes_further}
 use Rattle.sshkey_matching.proofs.pattern.after_front.Goals as goal
 

@@ -1,6 +1,5 @@
 use Rattle.std.proofs.Common.{length}
-use Rattle.sshkey_matching.specs.LetterCases.{fold_of}
-use Rattle.sshkey_matching.specs.Matching.{GoesOn}
+use Rattle.sshkey_matching.specs.Patterns.{fold_of, GoesOn}
 use Rattle.sshkey_matching.proofs.pattern.after_front.Given as goal
 
 -- how far it is matched

@@ -1,5 +1,5 @@
 use Rattle.std.proofs.Common.{◌≡◌, slice_index, rules}
-use Rattle.sshkey_matching.specs.LetterCases.{fold_of}
+use Rattle.sshkey_matching.specs.Patterns.{fold_of}
 use Rattle.sshkey_matching.proofs.Matching.{after_star}
 use Rattle.sshkey_matching.proofs.pattern.is_match.Goals as goal
 

@@ -1,7 +1,5 @@
 use Rattle.std.proofs.Common.{◌↔◌, length}
-use Rattle.sshkey_matching.specs.Patterns.{Matches}
-use Rattle.sshkey_matching.specs.LetterCases.{fold_of}
-use Rattle.sshkey_matching.specs.Matching.{IsStuck}
+use Rattle.sshkey_matching.specs.Patterns.{Matches, fold_of, IsStuck}
 use Rattle.sshkey_matching.proofs.pattern.is_match.Given as goal
 
 -- what is left matches exactly if all does

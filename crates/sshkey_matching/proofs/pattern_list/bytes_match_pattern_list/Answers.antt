@@ -1,7 +1,5 @@
 use Rattle.std.proofs.Common.{sym, ◌∙◌}
-use Rattle.sshkey_matching.specs.Commas.{patterns}
-use Rattle.sshkey_matching.specs.Patterns.{IsShortPattern, MatchesNegated}
-use Rattle.sshkey_matching.specs.LetterCases.{fold_of}
+use Rattle.sshkey_matching.specs.Patterns.{patterns, IsShortPattern, MatchesNegated, fold_of}
 use Rattle.sshkey_matching.proofs.PatternLists.{at_last, no_patterns_left, one_less, refused, too_long}
 use Rattle.sshkey_matching.proofs.pattern_list.bytes_match_pattern_list.Goals as goal
 use Rattle.sshkey_matching.proofs.pattern_list.bytes_match_pattern_list.Goals.{then-not-is_short-via-then-not-is_short, then-not-is_short-via-else-not-is_short+then-refuses}

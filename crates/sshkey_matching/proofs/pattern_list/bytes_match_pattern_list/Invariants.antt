@@ -1,7 +1,5 @@
 use Rattle.std.proofs.Common.{◌↔◌, length}
-use Rattle.sshkey_matching.specs.Commas.{patterns}
-use Rattle.sshkey_matching.specs.Patterns.{MatchesList}
-use Rattle.sshkey_matching.specs.LetterCases.{fold_of}
+use Rattle.sshkey_matching.specs.Patterns.{patterns, MatchesList, fold_of}
 use Rattle.sshkey_matching.proofs.PatternLists.{StillListed}
 use Rattle.sshkey_matching.proofs.pattern_list.bytes_match_pattern_list.Given as goal
 

@@ -1,7 +1,6 @@
 use Rattle.std.proofs.Common.{◌≡◌, ℕ, List, [], ◌∷◌, Option, Bor, ap, ◌∙◌, rules}
-use Rattle.sshkey_matching.specs.Networks.{IsSomeNetwork, Covers}
-use Rattle.sshkey_matching.specs.SourceAddresses.{pieces, pieces_of}
-use Rattle.sshkey_matching.proofs.Pieces.{all_less, all_last, found_last, not_all, one_less}
+use Rattle.sshkey_matching.specs.SourceAddresses.{IsSomeNetwork, Covers, pieces, pieces_of}
+use Rattle.sshkey_matching.proofs.FromLists.{all_less, all_last, found_last, not_all, one_less}
 use Rattle.sshkey_matching.proofs.source_address.has_address.Goals as goal
 
 pub returns-in_default : goal.returns-in_default

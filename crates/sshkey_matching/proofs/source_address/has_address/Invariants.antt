@@ -1,9 +1,8 @@
 use Rattle.std.proofs.Common.{◌↔◌, length}
 use denote.Shadow.{shadow}
 use denote.Text.{Utf8}
-use Rattle.sshkey_matching.specs.Networks.{Covers}
-use Rattle.sshkey_matching.specs.SourceAddresses.{pieces, IsNetworks, Has}
-use Rattle.sshkey_matching.proofs.Pieces.{IsFoundOrIn}
+use Rattle.sshkey_matching.specs.SourceAddresses.{Covers, pieces, IsNetworks, Has}
+use Rattle.sshkey_matching.proofs.FromLists.{IsFoundOrIn}
 use Rattle.sshkey_matching.proofs.source_address.has_address.Given as goal
 
 -- what was found, and what is left

@@ -1,4 +1,4 @@
-use Rattle.sshkey_matching.proofs.Pieces.{first_piece, only_piece}
+use Rattle.sshkey_matching.proofs.FromLists.{first_piece, only_piece}
 use Rattle.sshkey_matching.proofs.source_address.split_piece.Goals as goal
 
 pub returns-in-Some : goal.returns-in-Some

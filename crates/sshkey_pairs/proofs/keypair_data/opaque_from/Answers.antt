@@ -4,7 +4,7 @@ use Rattle.sshkey_model.specs.Names.{algorithm_name}
 use Rattle.sshkey_base.specs.Names.{algorithm_of}
 use Rattle.sshkey_terms.proofs.Mapped.{mapped_reads, mapped_refused}
 use Rattle.sshkey_terms.proofs.Stopping.{mapped_stopped}
-use Rattle.sshkey_pairs.proofs.KeypairReaders.{some_opaque_parts_read}
+use Rattle.sshkey_pairs.proofs.Keypairs.{some_opaque_parts_read}
 use Rattle.sshkey_pairs.proofs.keypair_data.opaque_from.Goals as goal
 
 pub returns-in_err-key-clause-gives : goal.returns-in_err-key-clause-gives

@@ -3,8 +3,7 @@ use Rattle.sshkey_model.specs.Reading.{to_end}
 use Rattle.sshkey_base.proofs.Boxes.{prefixed_gives}
 use Rattle.sshkey_base.proofs.FilledBoxes.{filled_stops}
 use Rattle.sshkey_keys.specs.Keys.{key_of}
-use Rattle.sshkey_private.specs.Inner.{inner_of, inner_at, inner_format}
-use Rattle.sshkey_private.specs.Padded.{padded_below, padded_format}
+use Rattle.sshkey_private.specs.PrivateParts.{inner_of, inner_at, inner_format, padded_below, padded_format}
 use Rattle.sshkey_private.proofs.Lawful.{inner_lawful}
 use Rattle.sshkey_private.proofs.Padded.{padded_lawful}
 use Rattle.sshkey_private.proofs.inner.decode_inner.Goals as goal

@@ -11,7 +11,7 @@ use Rattle.sshkey_pairs.specs.Keypairs.{pair_of}
 use Rattle.sshkey_model.specs.Terms.{◌then◌}
 use Rattle.sshkey_terms.proofs.Lawful.{IsMapped}
 use Rattle.sshkey_terms.proofs.Stopping.{mapped_stopped, stopped_first, stopped_later}
-use Rattle.sshkey_private.specs.Inner.{unencrypted_of_parts, inner_at, checkint_format, pair_format}
+use Rattle.sshkey_private.specs.PrivateParts.{unencrypted_of_parts, inner_at, checkint_format, pair_format}
 use Rattle.sshkey_private.proofs.Lawful.{checkint_lawful, inner_is, pair_lawful}
 use Rattle.sshkey_private.proofs.inner.inner_from.Goals as goal
 

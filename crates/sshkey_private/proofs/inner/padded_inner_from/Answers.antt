@@ -3,7 +3,7 @@ use Rattle.std.proofs.lemmas.Result.{err_from_is_err_and}
 use Rattle.sshkey_keys.specs.Keys.{key_of}
 use Rattle.sshkey_base.proofs.Places.{later_then}
 use Rattle.sshkey_base.proofs.Stopping.{read_past}
-use Rattle.sshkey_private.specs.Inner.{inner_of, inner_at, inner_format}
+use Rattle.sshkey_private.specs.PrivateParts.{inner_of, inner_at, inner_format}
 use Rattle.sshkey_private.proofs.PaddedReaders.{not_whole, value_refused, padding_refused, padded_read, asks_padded, past_padded}
 use Rattle.sshkey_private.proofs.Lawful.{inner_lawful}
 use Rattle.sshkey_private.proofs.inner.padded_inner_from.Goals as goal

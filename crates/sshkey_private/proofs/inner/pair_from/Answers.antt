@@ -4,9 +4,9 @@ use Rattle.sshkey_base.proofs.Stopping.{judged_stops}
 use Rattle.sshkey_base.specs.Causes.{cause}
 use Rattle.sshkey_pairs.specs.Keypairs.{pair_of}
 use Rattle.sshkey_model.specs.KeyPairs.{keypair_format}
-use Rattle.sshkey_pairs.proofs.Lawful.{keypair_lawful}
+use Rattle.sshkey_pairs.proofs.Keypairs.{keypair_lawful}
 use Rattle.sshkey_keys.specs.Keys.{key_of}
-use Rattle.sshkey_private.specs.Inner.{half_of, pair_with_at}
+use Rattle.sshkey_private.specs.PrivateParts.{half_of, pair_with_at}
 use Rattle.sshkey_private.proofs.inner.pair_from.Goals as goal
 
 pub returns-clause-gives : goal.returns-clause-gives

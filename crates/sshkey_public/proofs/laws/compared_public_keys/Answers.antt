@@ -3,8 +3,7 @@ use Rattle.std.proofs.lemmas.Bool.Decides.{Decides-and, Decides-like}
 use Rattle.std.proofs.lemmas.Slice.Eq.{bytes_eq-Decides}
 use Rattle.sshkey_model.specs.Keys.{Key}
 use Rattle.sshkey_base.proofs.Comparisons.{both, after, last_of_all}
-use Rattle.sshkey_public.specs.Comparisons.{content_of}
-use Rattle.sshkey_public.specs.PublicKeys.{data_of}
+use Rattle.sshkey_public.specs.PublicKeys.{content_of, data_of}
 use Rattle.sshkey_public.proofs.laws.compared_public_keys.Goals as goal
 
 together : (a b : Key × List ℕ) → (a.0 ≡ b.0) × (a.1 ≡ b.1) → a ≡ b

@@ -1,4 +1,4 @@
-use Rattle.sshkey_public.proofs.OneLines.{one_line_written, one_line_first, one_line_comment}
+use Rattle.sshkey_public.proofs.WrittenLines.{one_line_written, one_line_first, one_line_comment}
 use Rattle.sshkey_public.proofs.one_line.makes_one_line.Goals as goal
 
 pub returns-then-is_one_line : goal.returns-then-is_one_line

@@ -1,7 +1,7 @@
 use Rattle.std.proofs.Common.{◌≡◌, ◌≢◌, ℕ, List, length, ap, arith, bytes_eq, codes, false, refl}
 use Rattle.sshkey_model.specs.Parts.{flat}
 use Rattle.sshkey_revoked_keys.proofs.LaterKeys.{front_is, unlike}
-use Rattle.sshkey_revoked_keys.specs.LaterKeys.{IsLaterKey, later_blob, later_name}
+use Rattle.sshkey_revoked_keys.specs.RevokedKeys.{IsLaterKey, later_blob, later_name}
 use Rattle.sshkey_revoked_keys.proofs.examples.later_keys.Goals as goal
 
 other_size : (own word : List ℕ) → length own ≢ 1344 → ¬ IsLaterKey later_name word (later_blob own)

@@ -1,6 +1,6 @@
 use Rattle.std.proofs.Common.{refl}
-use Rattle.sshkey_entries.specs.Fronts.{without_front}
-use Rattle.sshkey_revoked_keys.specs.RevokedLines.{revoked_lines}
+use Rattle.sshkey_entries.specs.Fields.{without_front}
+use Rattle.sshkey_revoked_keys.specs.RevokedKeys.{revoked_lines}
 use Rattle.sshkey_revoked_keys.proofs.examples.lines.Goals as goal
 
 pub returns : goal.returns

@@ -1,8 +1,7 @@
 use Rattle.std.proofs.Common.{◌⊎◌, ◌↔◌, ℕ, List, IsTrue, inl, inr}
 use Rattle.sshkey_krl.specs.Revocation.{CertificateIdentity}
-use Rattle.sshkey_revoked_keys.proofs.KeyLines.{either, key_found, left, line_found, right}
-use Rattle.sshkey_revoked_keys.specs.RevokedKeys.{AreKeys, HasLineOf, has_key, revokes, revokes_key}
-use Rattle.sshkey_revoked_keys.specs.RevokedLines.{revoked_lines}
+use Rattle.sshkey_revoked_keys.proofs.RevokedLines.{either, key_found, left, line_found, right}
+use Rattle.sshkey_revoked_keys.specs.RevokedKeys.{AreKeys, HasLineOf, has_key, revokes, revokes_key, revoked_lines}
 use Rattle.sshkey_revoked_keys.specs.declared.revoked_keys.RevokedKeys.{RevokedKeys}
 use Rattle.sshkey_revoked_keys.specs.declared.revoked_keys.RevokedKeys.TheVariants.{Keys, Krl}
 use Rattle.sshkey_revoked_keys.proofs.laws.lines_revoke.Goals as goal

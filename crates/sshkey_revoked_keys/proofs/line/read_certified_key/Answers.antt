@@ -1,11 +1,11 @@
 use Rattle.std.proofs.Common.{inr, ap, true}
 use Rattle.std.proofs.lemmas.Result.{err_from_is_err_and}
 use Rattle.sshkey_model.specs.Certificates.{certificate_format, SpellsCertificate}
-use Rattle.sshkey_cert.proofs.CertificateReaders.{certificates_stand}
+use Rattle.sshkey_cert.proofs.Certificates.{certificates_stand}
 use Rattle.sshkey_model.specs.Keys.{Key, normal_key}
 use Rattle.sshkey_model.specs.Lines.{name_of_certificate}
 use Rattle.sshkey_model.specs.Parts.{flat}
-use Rattle.sshkey_revoked_keys.specs.NamedWords.{IsReadCertificate}
+use Rattle.sshkey_revoked_keys.specs.RevokedKeys.{IsReadCertificate}
 use Rattle.sshkey_revoked_keys.proofs.NamedWords.{key_asks, key_reads, key_refuses, unnamed, unread, unread_fault}
 use Rattle.sshkey_revoked_keys.proofs.line.read_certified_key.Goals as goal
 

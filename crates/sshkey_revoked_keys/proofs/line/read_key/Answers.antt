@@ -3,7 +3,7 @@ use Rattle.std.proofs.lemmas.Result.{err_from_is_err_and}
 use Rattle.sshkey_model.specs.Keys.{key_format, SpellsKey}
 use Rattle.sshkey_model.proofs.Blobs.{key_blobs}
 use Rattle.sshkey_model.specs.Lines.{key_name}
-use Rattle.sshkey_revoked_keys.specs.NamedWords.{IsReadKey}
+use Rattle.sshkey_revoked_keys.specs.RevokedKeys.{IsReadKey}
 use Rattle.sshkey_revoked_keys.proofs.NamedWords.{key_asks, not_later, unread}
 use Rattle.sshkey_revoked_keys.proofs.line.read_key.Goals as goal
 

@@ -1,7 +1,7 @@
 use Rattle.std.proofs.Common.{◌∙◌, subst, sym, true, false}
 use Rattle.std.specs.Str.{IsUtf8}
 use Rattle.std.proofs.lemmas.Result.{err_from_is_err_and}
-use Rattle.sshkey_entries.proofs.FieldKeys.{no_length, some_length}
+use Rattle.sshkey_entries.proofs.KeyFields.{no_length, some_length}
 use Rattle.sshkey_revoked_keys.proofs.RevokedLines.{begins, begins_as, line_asks, line_reads, line_refuses, no_text_fault, no_text_said, no_word_fault, no_word_said, some_text}
 use Rattle.sshkey_revoked_keys.proofs.line.read_line.Goals as goal
 

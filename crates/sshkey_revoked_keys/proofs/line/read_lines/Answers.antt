@@ -1,9 +1,9 @@
 use Rattle.std.proofs.Common.{◌≡◌, ℕ, List, ◌++◌, Vec, Global, inl, sym, ap, subst, ◌∙◌, append-nil}
 use Rattle.std.proofs.lemmas.Result.{err_from_is_err_and}
-use Rattle.sshkey_entries.proofs.AnswerLists.{answered_more, needed_first}
+use Rattle.sshkey_entries.proofs.TextLines.{answered_more, needed_first}
 use Rattle.sshkey_entries.specs.Answers.{AreEntries}
-use Rattle.sshkey_revoked_keys.proofs.LineEnds.{first_left, nothing_left}
-use Rattle.sshkey_revoked_keys.specs.RevokedLines.{NeedsLine, RevokesKey, revoked_lines}
+use Rattle.sshkey_revoked_keys.proofs.RevokedLines.{first_left, nothing_left}
+use Rattle.sshkey_revoked_keys.specs.RevokedKeys.{NeedsLine, RevokesKey, revoked_lines}
 use Rattle.sshkey_revoked_keys.proofs.line.read_lines.Goals as goal
 
 pub lines-preserved-in_ok-push : goal.lines-preserved-in_ok-push

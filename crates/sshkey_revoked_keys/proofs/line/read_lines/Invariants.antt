@@ -1,6 +1,6 @@
 use Rattle.std.proofs.Common.{◌≡◌, ◌++◌, List, ℕ, length}
 use Rattle.sshkey_entries.specs.Answers.{AreEntries}
-use Rattle.sshkey_revoked_keys.specs.RevokedLines.{RevokesKey, revoked_lines}
+use Rattle.sshkey_revoked_keys.specs.RevokedKeys.{RevokesKey, revoked_lines}
 use Rattle.sshkey_revoked_keys.proofs.line.read_lines.Given as goal
 
 -- the lines that were read, and those that are left

@@ -1,6 +1,6 @@
 use Rattle.std.proofs.Common.{◌+◌, [], refl}
 use Rattle.std.proofs.lemmas.List.{take_rest}
-use Rattle.sshkey_revoked_keys.proofs.LineEnds.{line_first, line_last, less_left}
+use Rattle.sshkey_revoked_keys.proofs.RevokedLines.{line_first, line_last, less_left}
 use Rattle.sshkey_revoked_keys.proofs.line.split_line.Goals as goal
 
 pub returns-in-Some-clause-lines : goal.returns-in-Some-clause-lines

@@ -1,7 +1,7 @@
 use Rattle.std.proofs.Common.{◌≡◌, ◌++◌}
 use Rattle.std.proofs.lemmas.Result.{IfOk-weaker}
 use Rattle.std.specs.Prelude.{string_bytes}
-use Rattle.sshkey_cert.specs.CertificateValues.{certificate_of}
+use Rattle.sshkey_cert.specs.Certificates.{certificate_of}
 use Rattle.sshkey_tool.specs.Lines.{in_lines, field_lines}
 use Rattle.sshkey_tool.proofs.Lines.{fields_are}
 use Rattle.sshkey_tool.proofs.certificate.field_lines.Goals as goal

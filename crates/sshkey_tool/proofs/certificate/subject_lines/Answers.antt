@@ -1,7 +1,7 @@
 use Rattle.std.proofs.Common.{◌≡◌, ap, ◌∙◌}
 use Rattle.std.proofs.lemmas.Result.{IfOk-weaker}
 use Rattle.std.specs.Prelude.{decimal, string_bytes}
-use Rattle.sshkey_cert.specs.CertificateValues.{certificate_of}
+use Rattle.sshkey_cert.specs.Certificates.{certificate_of}
 use Rattle.sshkey_model.specs.Lines.{key_name}
 use Rattle.sshkey_tool.specs.Lines.{type_word, in_lines, subject_lines}
 use Rattle.sshkey_tool.proofs.Lines.{subject_is, subject_text}

@@ -1,7 +1,7 @@
 use Rattle.std.proofs.Common.{◌≡◌, ap, ◌∙◌}
 use Rattle.std.proofs.lemmas.Result.{IfOk-weaker}
 use Rattle.std.specs.Prelude.{decimal, string_bytes}
-use Rattle.sshkey_cert.specs.CertificateValues.{certificate_of}
+use Rattle.sshkey_cert.specs.Certificates.{certificate_of}
 use Rattle.sshkey_tool.specs.Lines.{end_text, in_lines, window_lines}
 use Rattle.sshkey_tool.proofs.Lines.{window_is, window_text}
 use Rattle.sshkey_tool.proofs.certificate.window_lines.Goals as goal

@@ -1,7 +1,7 @@
 use Rattle.std.proofs.Common.{◌≡◌, true, false, inl, inr, refl, ◌∙◌, subst, List, ℕ}
 use Rattle.std.specs.Prelude.{string_bytes}
 use Rattle.sshkey_tool.specs.Outcomes.{RefusesAfter}
-use Rattle.sshkey_tool.specs.Faults.{WritesWithStatus}
+use Rattle.sshkey_tool.specs.Lines.{WritesWithStatus}
 use Rattle.sshkey_tool.proofs.ShownEntries.{IsMoreStatus, nothing_written, keeps_more, writes_kept, whole_line, begun_line, all_written, cut_lines, cut_entries}
 use Rattle.sshkey_tool.proofs.entries.write_entries.Goals as goal
 use Rattle.sshkey_tool.proofs.entries.write_entries.Goals.{then-refused, else-refused}

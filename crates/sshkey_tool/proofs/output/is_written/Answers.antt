@@ -1,5 +1,5 @@
 use Rattle.std.proofs.KnownBytes.{Appends-kept}
-use Rattle.sshkey_tool.proofs.Writing.{fewer, more}
+use Rattle.sshkey_tool.proofs.Lines.{fewer, more}
 use Rattle.sshkey_tool.proofs.output.is_written.Goals as goal
 use Rattle.sshkey_tool.proofs.output.is_written.Goals.{in-Ok, in-Err+in-Interrupted}
 

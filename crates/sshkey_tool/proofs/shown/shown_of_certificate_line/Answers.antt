@@ -1,5 +1,5 @@
 use Rattle.std.proofs.lemmas.Result.{err_from_is_err_and}
-use Rattle.sshkey_cert.specs.CertificateValues.{certificate_of, comment_of}
+use Rattle.sshkey_cert.specs.Certificates.{certificate_of, comment_of}
 use Rattle.sshkey_tool.proofs.Outcomes.{refusal, shows_certificate}
 use Rattle.sshkey_tool.proofs.shown.shown_of_certificate_line.Goals as goal
 

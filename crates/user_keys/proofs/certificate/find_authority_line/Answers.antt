@@ -1,7 +1,7 @@
 use Rattle.std.proofs.Common.{◌≡◌, ◌∙◌, ℕ, List, [], Bor, Option, ap, false, option_map, string_bytes, sym, true}
 use Rattle.std.proofs.lemmas.Result.{err_from_is_err_and}
-use Rattle.login_terms.specs.Terms.{terms_of}
-use Rattle.sshkey_cert.specs.CertificateValues.{certificate_of}
+use Rattle.login_terms.specs.Options.{terms_of}
+use Rattle.sshkey_cert.specs.Certificates.{certificate_of}
 use Rattle.user_keys.proofs.CertificateLogins.{no_line, no_name, ran_out}
 use Rattle.user_keys.specs.CertificateLogins.{IsLineFor, login_with}
 use Rattle.user_keys.specs.Certificates.{name_for, name_listed}

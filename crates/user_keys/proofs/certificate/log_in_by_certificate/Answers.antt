@@ -1,7 +1,7 @@
 use Rattle.std.proofs.Common.{◌≡◌, ◌∙◌, ℕ, List, [], ◌∷◌, Bor, Option, Err, Ok, ap, inl, inr, option_map, string_bytes, subst, sym}
 use Rattle.std.proofs.lemmas.Result.{err_from_is_err_and}
-use Rattle.login_terms.specs.Terms.{terms_of}
-use Rattle.sshkey_cert.specs.CertificateValues.{certificate_of}
+use Rattle.login_terms.specs.Options.{terms_of}
+use Rattle.sshkey_cert.specs.Certificates.{certificate_of}
 use Rattle.sshkey_cert.specs.Validity.{fingerprints_of}
 use Rattle.sshkey_keys.specs.Fingerprints.{IsFingerprint}
 use Rattle.sshkey_model.specs.Fingerprints.{Fingerprint}

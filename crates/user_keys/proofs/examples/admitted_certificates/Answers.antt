@@ -1,6 +1,6 @@
 use Rattle.std.proofs.Common.{refl, subst}
 use Rattle.user_keys.specs.CertificateLogins.{IsCertified}
-use Rattle.user_keys.proofs.EdgeExamples.{no_dsa}
+use Rattle.user_keys.proofs.ExampleLemmas.{no_dsa}
 use Rattle.user_keys.proofs.examples.admitted_certificates.Goals as goal
 
 pub returns : goal.returns

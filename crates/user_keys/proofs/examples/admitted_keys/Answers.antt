@@ -1,6 +1,6 @@
 use Rattle.std.proofs.Common.{◌∙◌, sym}
 use Rattle.std.proofs.lemmas.Option.{none-some}
-use Rattle.user_keys.proofs.EdgeExamples.{never, no_dsa}
+use Rattle.user_keys.proofs.ExampleLemmas.{never, no_dsa}
 use Rattle.user_keys.proofs.examples.admitted_keys.Goals as goal
 
 pub returns : goal.returns

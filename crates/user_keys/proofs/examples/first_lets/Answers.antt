@@ -1,4 +1,4 @@
-use Rattle.user_keys.proofs.EdgeExamples.{first_of_three, not_after, two_terms}
+use Rattle.user_keys.proofs.ExampleLemmas.{first_of_three, not_after, two_terms}
 use Rattle.user_keys.proofs.examples.first_lets.Goals as goal
 
 pub returns : goal.returns

@@ -1,5 +1,5 @@
 use Rattle.std.proofs.Common.{codes, refl}
-use Rattle.user_keys.proofs.EdgeExamples.{first_of_two, never_at_1, never_at_3, unlike}
+use Rattle.user_keys.proofs.ExampleLemmas.{first_of_two, never_at_1, never_at_3, unlike}
 use Rattle.user_keys.proofs.examples.first_lines.Goals as goal
 
 pub returns : goal.returns

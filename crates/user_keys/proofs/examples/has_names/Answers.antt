@@ -1,11 +1,10 @@
 use Rattle.std.proofs.Common.{arith, codes, inl, inr, refl}
-use Rattle.sshkey_entries.specs.Fronts.{without_front}
+use Rattle.sshkey_entries.specs.Fields.{without_front, is_inside}
 use Rattle.sshkey_entries.specs.Items.{is_odd}
-use Rattle.sshkey_entries.specs.OptionEnds.{is_inside}
 use Rattle.sshkey_model.specs.Names.{named}
 use Rattle.user_keys.specs.LoginExamples.{other}
-use Rattle.user_keys.proofs.KeyNames.{behind, nowhere}
-use Rattle.user_keys.proofs.NameExamples.{ends_at, never_ends, not_name}
+use Rattle.user_keys.proofs.Lines.{behind, nowhere}
+use Rattle.user_keys.proofs.ExampleLemmas.{ends_at, never_ends, not_name}
 use Rattle.user_keys.proofs.examples.has_names.Goals as goal
 
 pub returns : goal.returns

@@ -1,7 +1,7 @@
 use Rattle.std.proofs.Common.{codes, inl, inr, refl}
 use Rattle.sshkey_model.specs.Names.{named}
 use Rattle.user_keys.specs.LoginExamples.{other}
-use Rattle.user_keys.proofs.NameExamples.{not_name}
+use Rattle.user_keys.proofs.ExampleLemmas.{not_name}
 use Rattle.user_keys.proofs.examples.key_names.Goals as goal
 
 pub returns : goal.returns

@@ -1,5 +1,5 @@
 use Rattle.std.proofs.Common.{refl}
-use Rattle.user_keys.proofs.EdgeExamples.{never}
+use Rattle.user_keys.proofs.ExampleLemmas.{never}
 use Rattle.user_keys.proofs.examples.lines_of_principals.Goals as goal
 
 pub returns : goal.returns

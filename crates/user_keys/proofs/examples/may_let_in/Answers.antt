@@ -1,5 +1,5 @@
 use Rattle.std.proofs.Common.{◌≡◌, ◌<◌, ◌⊎◌, ℕ, List, true, false, None, arith, inl, inr, subst}
-use Rattle.login_terms.specs.Terms.{Terms}
+use Rattle.login_terms.specs.Options.{Terms}
 use Rattle.user_keys.specs.Judgements.{Judges}
 use Rattle.user_keys.specs.Lines.{MayBeFor}
 use Rattle.user_keys.specs.LoginExamples.{by_key, login_at, other}

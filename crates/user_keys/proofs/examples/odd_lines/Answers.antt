@@ -2,8 +2,8 @@ use Rattle.std.proofs.Common.{◌∷◌, [], refl}
 use Rattle.std.proofs.lemmas.Str.{is_utf8-from_IsUtf8}
 use Rattle.std.specs.Char.{encode_utf8}
 use Rattle.std.specs.Str.{chars, is_utf8}
-use Rattle.sshkey_entries.specs.Fronts.{without_front}
-use Rattle.user_keys.proofs.EdgeExamples.{never}
+use Rattle.sshkey_entries.specs.Fields.{without_front}
+use Rattle.user_keys.proofs.ExampleLemmas.{never}
 use Rattle.user_keys.proofs.examples.odd_lines.Goals as goal
 
 pub returns : goal.returns

@@ -2,9 +2,9 @@ use Rattle.std.proofs.Common.{◌∷◌, codes, inl, refl}
 use Rattle.std.proofs.lemmas.Str.{IsUtf8-from_is_utf8, is_utf8-from_IsUtf8}
 use Rattle.std.specs.Char.{encode_utf8}
 use Rattle.std.specs.Str.{chars, is_utf8}
-use Rattle.sshkey_entries.specs.Fronts.{without_front}
+use Rattle.sshkey_entries.specs.Fields.{without_front}
 use Rattle.user_keys.specs.Principals.{after_last}
-use Rattle.user_keys.proofs.EdgeExamples.{never}
+use Rattle.user_keys.proofs.ExampleLemmas.{never}
 use Rattle.user_keys.proofs.examples.options_of_lines.Goals as goal
 
 pub returns : goal.returns

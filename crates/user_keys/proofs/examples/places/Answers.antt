@@ -1,6 +1,6 @@
 use Rattle.std.proofs.Common.{ℕ, List, [], ◌∷◌, ap, codes, get_or, refl}
-use Rattle.sshkey_entries.specs.Fronts.{without_front}
-use Rattle.user_keys.proofs.EdgeExamples.{unlike}
+use Rattle.sshkey_entries.specs.Fields.{without_front}
+use Rattle.user_keys.proofs.ExampleLemmas.{unlike}
 use Rattle.user_keys.proofs.examples.places.Goals as goal
 
 pub returns : goal.returns

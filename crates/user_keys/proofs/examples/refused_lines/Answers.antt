@@ -1,10 +1,10 @@
 use Rattle.std.proofs.Common.{None, arith, inl, refl, subst}
-use Rattle.login_terms.specs.Terms.{Terms}
+use Rattle.login_terms.specs.Options.{Terms}
 use Rattle.user_keys.specs.Judgements.{Judges}
 use Rattle.user_keys.specs.TermExamples.{expiring}
 use Rattle.user_keys.specs.declared.answer.Judgement.TheVariants.{Allows, Refuses, Unclear}
 use Rattle.user_keys.specs.declared.refusal.Reason.TheVariants.{Expired}
-use Rattle.user_keys.proofs.EdgeExamples.{never}
+use Rattle.user_keys.proofs.ExampleLemmas.{never}
 use Rattle.user_keys.proofs.examples.refused_lines.Goals as goal
 
 pub returns : goal.returns

@@ -1,8 +1,8 @@
 use Rattle.std.proofs.Common.{refl, true}
-use Rattle.user_keys.specs.FirstLines.{but_tunnels}
+use Rattle.user_keys.specs.UserLogins.{but_tunnels}
 use Rattle.user_keys.specs.LoginExamples.{leaves_tunnels, restricted, takes_all}
-use Rattle.login_terms.specs.Terms.{none_permitted}
-use Rattle.user_keys.proofs.LoginExamples.{as_told, not_all}
+use Rattle.login_terms.specs.Options.{none_permitted}
+use Rattle.user_keys.proofs.ExampleLemmas.{as_told, not_all}
 use Rattle.user_keys.proofs.examples.restricted.Goals as goal
 
 pub returns : goal.returns

@@ -1,15 +1,14 @@
 use Rattle.std.proofs.Common.{subst}
 use Rattle.sshkey_keys.specs.Keys.{key_of}
-use Rattle.sshkey_entries.specs.Readings.{Tells}
-use Rattle.login_terms.specs.Terms.{terms_of}
+use Rattle.sshkey_entries.specs.Answers.{Tells}
+use Rattle.login_terms.specs.Options.{terms_of}
 use Rattle.sshkey_entries.specs.declared.reading.Reading.{Reading}
 use Rattle.login_terms.specs.declared.terms.Terms as code
 use Rattle.user_keys.specs.Lines.{MayBeFor}
 use Rattle.user_keys.specs.UserLogins.{IsOwn, credential_of, is_certificate, listed_key, login_of}
-use Rattle.user_keys.proofs.FirstLines.{of_error}
+use Rattle.user_keys.proofs.FirstLines.{of_error, own_reading}
 use Rattle.user_keys.proofs.Judgements.{may_let, passes, says}
 use Rattle.user_keys.proofs.Lines.{own_spells}
-use Rattle.user_keys.proofs.Shown.{own_reading}
 use Rattle.user_keys.proofs.first_line.check_line.Goals as goal
 
 pub returns-in_err-judgement-in-Is-clause-asks : goal.returns-in_err-judgement-in-Is-clause-asks

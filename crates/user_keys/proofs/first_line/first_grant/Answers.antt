@@ -2,12 +2,12 @@ use Rattle.std.proofs.Common.{◌≡◌, ◌∙◌, arith, List, ℕ, [], ◌∷
 use Rattle.std.proofs.lemmas.List.{length-append}
 use Rattle.std.specs.List.{Any}
 use Rattle.std.specs.Str.Lines.{lines}
-use Rattle.login_terms.specs.Terms.{terms_of}
+use Rattle.login_terms.specs.Options.{terms_of}
 use Rattle.user_keys.specs.Answers.{IsWhyNoLine, SaysOf}
 use Rattle.sshkey_model.specs.Keys.{Key}
 use Rattle.user_keys.specs.Spellings.{AreMarks, MaySpell, own_part}
 use Rattle.user_keys.specs.UserLogins.{Ends, GrantsFirst, Lets, MayLet, credential_of, listed_key, login_of}
-use Rattle.user_keys.proofs.Unlisted.{none_ends, none_listed}
+use Rattle.user_keys.proofs.Lines.{none_ends, none_listed}
 use Rattle.user_keys.proofs.FirstLines.{RefusedBy, asked, granted, here, none_lets, none_more, nothing_lets, out_of_memory, passed, refused_also, strict, why}
 use Rattle.user_keys.proofs.first_line.first_grant.Goals as goal
 

@@ -1,7 +1,7 @@
 use Rattle.std.proofs.Common.{subst, sym}
 use Rattle.sshkey_keys.specs.Keys.{key_of}
 use Rattle.user_keys.specs.Lines.{IsNameFor}
-use Rattle.user_keys.proofs.KeyNames.{first_field}
+use Rattle.user_keys.proofs.Lines.{first_field}
 use Rattle.user_keys.proofs.line.begins_with_name.Goals as goal
 
 pub returns : goal.returns

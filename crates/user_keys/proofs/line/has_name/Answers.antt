@@ -1,6 +1,6 @@
 use Rattle.std.proofs.Common.{◌∙◌, inl, refl, sym}
 use Rattle.sshkey_keys.specs.Keys.{key_of}
-use Rattle.user_keys.proofs.KeyNames.{behind, nowhere}
+use Rattle.user_keys.proofs.Lines.{behind, nowhere}
 use Rattle.user_keys.proofs.line.has_name.Goals as goal
 
 pub returns-then-begins_with_name : goal.returns-then-begins_with_name

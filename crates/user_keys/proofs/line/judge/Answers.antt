@@ -1,5 +1,5 @@
 use Rattle.std.proofs.Common.{subst, sym}
-use Rattle.login_terms.specs.Terms.{terms_of}
+use Rattle.login_terms.specs.Options.{terms_of}
 use Rattle.user_keys.specs.Judgements.{Judges}
 use Rattle.user_keys.specs.declared.answer.Judgement.{Judgement}
 use Rattle.user_keys.proofs.Judgements.{judged}

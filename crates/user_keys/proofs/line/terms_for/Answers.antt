@@ -6,8 +6,8 @@ use Rattle.sshkey_entries.specs.Entries.{IsNoEntry, hash_sign}
 use Rattle.sshkey_entries.specs.Fields.{without_blanks}
 use Rattle.sshkey_entries.specs.OpenSshLines.{IsAuthorizedLine}
 use Rattle.sshkey_keys.specs.Keys.{key_of}
-use Rattle.sshkey_entries.specs.Readings.{Tells}
-use Rattle.login_terms.specs.Terms.{terms_of}
+use Rattle.sshkey_entries.specs.Answers.{Tells}
+use Rattle.login_terms.specs.Options.{terms_of}
 use Rattle.user_keys.specs.Lines.{HasName, before_zero}
 use Rattle.user_keys.specs.Spellings.{HasMark, own_part}
 use Rattle.user_keys.proofs.Lines.{are_marks, marks_are, not_marked, of_entry_read, of_no_text, of_text}

@@ -2,11 +2,11 @@ use Rattle.std.proofs.Common.{◌≡◌, ◌∙◌, List, ap, subst, sym, ℕ}
 use Rattle.sshkey_authorized_keys.specs.OpenSshEntries.{openssh_entry_of}
 use Rattle.sshkey_keys.specs.Keys.{key_of}
 use Rattle.sshkey_public.specs.PublicKeys.{data_of}
-use Rattle.sshkey_entries.specs.Readings.{Tells}
-use Rattle.login_terms.specs.Terms.{terms_of}
+use Rattle.sshkey_entries.specs.Answers.{Tells}
+use Rattle.login_terms.specs.Options.{terms_of}
 use Rattle.sshkey_entries.specs.declared.reading.Reading.{Reading}
 use Rattle.login_terms.specs.declared.terms.Terms as code
-use Rattle.user_keys.specs.Options.{AreTerms, MayBeTerms}
+use Rattle.user_keys.specs.Lines.{AreTerms, MayBeTerms}
 use Rattle.user_keys.proofs.Lines.{is_own, is_rejected, is_unclear, of_other, other_bit, same_bit}
 use Rattle.user_keys.proofs.line.terms_of_entry.Goals as goal
 

@@ -1,8 +1,8 @@
 use Rattle.std.proofs.Common.{List, subst, ℕ}
-use Rattle.login_terms.specs.Terms.{terms_of}
-use Rattle.sshkey_entries.proofs.Told.{told_as}
+use Rattle.login_terms.specs.Options.{terms_of}
+use Rattle.sshkey_entries.proofs.OptionItems.{told_as}
 use Rattle.sshkey_entries.specs.Fields.{without_blanks}
-use Rattle.sshkey_entries.specs.Readings.{Tells}
+use Rattle.sshkey_entries.specs.Answers.{Tells}
 use Rattle.sshkey_keys.specs.Keys.{key_of}
 use Rattle.user_keys.specs.Lines.{HasName}
 use Rattle.user_keys.specs.Spellings.{HasMark}

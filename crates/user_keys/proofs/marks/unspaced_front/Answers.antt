@@ -1,4 +1,4 @@
-use Rattle.user_keys.proofs.Unmarked.{unspaced_all, unspaced_before, unspaced_whole}
+use Rattle.user_keys.proofs.Spellings.{unspaced_all, unspaced_before, unspaced_whole}
 use Rattle.user_keys.proofs.marks.unspaced_front.Goals as goal
 
 pub returns-then-is_unspaced-clause-unspaced : goal.returns-then-is_unspaced-clause-unspaced

@@ -1,7 +1,7 @@
 use Rattle.std.proofs.Common.{◌∙◌, ℕ, List, Bor, Option, ap, map, rules, string_bytes, sym}
 use Rattle.sshkey_matching.specs.SourceAddresses.{pieces, pieces_of}
 use Rattle.user_keys.specs.Certificates.{first_listed}
-use Rattle.user_keys.proofs.ListedNames.{at_listed, at_other, mapped, of_bytes}
+use Rattle.user_keys.proofs.PrincipalLines.{at_listed, at_other, mapped, of_bytes}
 use Rattle.user_keys.proofs.names.first_listed.Goals as goal
 
 pub returns-then-is_listed : goal.returns-then-is_listed

@@ -1,7 +1,7 @@
 use Rattle.std.proofs.Common.{◌∙◌, ap, bytes_eq, string_bytes, sym}
 use Rattle.std.proofs.lemmas.List.Quantifiers.{position-Some}
 use Rattle.std.proofs.lemmas.Slice.Eq.{bytes_eq-Decides}
-use Rattle.user_keys.proofs.ListedNames.{none_at}
+use Rattle.user_keys.proofs.PrincipalLines.{none_at}
 use Rattle.user_keys.proofs.names.listed_as.Goals as goal
 
 pub returns-in-Some-clause-found : goal.returns-in-Some-clause-found

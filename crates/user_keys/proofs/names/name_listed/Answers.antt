@@ -1,6 +1,6 @@
 use Rattle.std.proofs.Common.{◌≡◌, ◌∙◌, map, refl, string_bytes, sym, true, false}
 use Rattle.user_keys.specs.Certificates.{is_listed}
-use Rattle.user_keys.proofs.ListedNames.{mapped, of_bytes}
+use Rattle.user_keys.proofs.PrincipalLines.{mapped, of_bytes}
 use Rattle.user_keys.proofs.names.name_listed.Goals as goal
 
 pub returns-then-is_listed : goal.returns-then-is_listed

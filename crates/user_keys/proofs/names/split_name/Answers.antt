@@ -1,4 +1,4 @@
-use Rattle.sshkey_matching.proofs.Pieces.{first_piece, only_piece}
+use Rattle.sshkey_matching.proofs.FromLists.{first_piece, only_piece}
 use Rattle.user_keys.proofs.names.split_name.Goals as goal
 
 pub returns-in-Some : goal.returns-in-Some

@@ -1,8 +1,8 @@
 use Rattle.std.proofs.Common.{subst}
 use Rattle.std.specs.Prelude.{IfOk}
 use Rattle.sshkey_entries.specs.OptionItems.{MaySay, Says}
-use Rattle.sshkey_entries.specs.Readings.{Tells}
-use Rattle.login_terms.specs.Terms.{Adds, MayBe, Terms, terms_of}
+use Rattle.sshkey_entries.specs.Answers.{Tells}
+use Rattle.login_terms.specs.Options.{Adds, MayBe, Terms, terms_of}
 use Rattle.user_keys.proofs.options.read_terms.Goals as goal
 
 pub returns : goal.returns

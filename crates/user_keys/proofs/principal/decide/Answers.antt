@@ -1,11 +1,11 @@
 use Rattle.std.proofs.Common.{◌≡◌, ◌∙◌, ℕ, List, Bor, IfOk, Option, Some, ap, option_map, subst, sym}
-use Rattle.sshkey_entries.specs.Readings.{Tells}
-use Rattle.login_terms.specs.Terms.{terms_of}
+use Rattle.sshkey_entries.specs.Answers.{Tells}
+use Rattle.login_terms.specs.Options.{terms_of}
 use Rattle.user_keys.specs.Principals.{DecidesBy, MayDecideBy}
-use Rattle.sshkey_cert.specs.CertificateValues.{certificate_of}
+use Rattle.sshkey_cert.specs.Certificates.{certificate_of}
 use Rattle.user_keys.specs.Certificates.{is_listed}
 use Rattle.user_keys.proofs.FirstLines.{of_error}
-use Rattle.user_keys.proofs.ListedNames.{mapped}
+use Rattle.user_keys.proofs.PrincipalLines.{mapped}
 use Rattle.user_keys.proofs.Principals.{empty_name, listed_name, of_nobody, of_one, of_unread, other_name}
 use Rattle.user_keys.proofs.principal.decide.Goals as goal
 use Rattle.user_keys.proofs.principal.decide.Goals.{then-is_empty-via-then-is_empty, then-is_empty-via-else-is_empty+then-not-is_listed}

@@ -1,8 +1,8 @@
 use Rattle.std.proofs.Common.{ℕ, List, inr, subst, sym}
 use Rattle.std.proofs.lemmas.Result.{err_from_is_err_and}
-use Rattle.login_terms.specs.Terms.{terms_of}
-use Rattle.sshkey_cert.specs.CertificateValues.{certificate_of}
-use Rattle.user_keys.specs.PrincipalLogins.{DecidesFirst, IsPrincipalLine, IsWhyUndecided, login_in_place}
+use Rattle.login_terms.specs.Options.{terms_of}
+use Rattle.sshkey_cert.specs.Certificates.{certificate_of}
+use Rattle.user_keys.specs.Principals.{DecidesFirst, IsPrincipalLine, IsWhyUndecided, login_in_place}
 use Rattle.user_keys.proofs.CertificateLogins.{ran_out, ran_out_else}
 use Rattle.user_keys.proofs.Principals.{not_allowed, undecided, unnamed}
 use Rattle.user_keys.proofs.principal.find_principal_line.Goals as goal

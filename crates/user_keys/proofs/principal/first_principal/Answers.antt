@@ -1,12 +1,12 @@
 use Rattle.std.proofs.Common.{◌≡◌, ◌∙◌, ◌+◌, ◌++◌, ℕ, List, [], ◌∷◌, IsTrue, ap, append_assoc, arith, inl, option_map, refl, subst, sym}
 use Rattle.std.proofs.lemmas.List.{length-append}
 use Rattle.std.specs.List.{Any}
-use Rattle.sshkey_entries.specs.Readings.{Tells}
-use Rattle.login_terms.specs.Terms.{terms_of}
+use Rattle.sshkey_entries.specs.Answers.{Tells}
+use Rattle.login_terms.specs.Options.{terms_of}
 use Rattle.sshkey_entries.specs.declared.reading.Reading.{Reading}
 use Rattle.login_terms.specs.declared.terms.Terms as code
-use Rattle.sshkey_cert.specs.CertificateValues.{certificate_of}
-use Rattle.user_keys.specs.FirstLines.{EndsBy}
+use Rattle.sshkey_cert.specs.Certificates.{certificate_of}
+use Rattle.user_keys.specs.UserLogins.{EndsBy}
 use Rattle.user_keys.specs.Principals.{Decides, MayDecide, SplitsLine, is_principal, lines_at_feeds}
 use Rattle.user_keys.proofs.FirstLines.{none_more}
 use Rattle.user_keys.proofs.Principals.{decided, first_of, if_memory, names_in, no_end, of_line, untold}

@@ -1,7 +1,7 @@
 use Rattle.std.proofs.Common.{◌≡◌, ◌≤◌, ◌+◌, ◌++◌, List, ℕ, length}
 use Rattle.std.specs.List.{Any}
-use Rattle.sshkey_cert.specs.CertificateValues.{certificate_of}
-use Rattle.user_keys.specs.FirstLines.{EndsBy}
+use Rattle.sshkey_cert.specs.Certificates.{certificate_of}
+use Rattle.user_keys.specs.UserLogins.{EndsBy}
 use Rattle.user_keys.specs.Principals.{Decides, MayDecide, lines_at_feeds}
 use Rattle.user_keys.proofs.principal.first_principal.Given as goal
 

@@ -1,11 +1,10 @@
 use Rattle.std.proofs.Common.{ℕ, List, inl, inr, subst, sym}
 use Rattle.std.proofs.lemmas.Result.{err_from_is_err_and}
-use Rattle.login_terms.specs.Terms.{terms_of}
-use Rattle.sshkey_cert.specs.CertificateValues.{certificate_of}
+use Rattle.login_terms.specs.Options.{terms_of}
+use Rattle.sshkey_cert.specs.Certificates.{certificate_of}
 use Rattle.sshkey_cert.specs.Validity.{fingerprints_of}
 use Rattle.openssh_limits.specs.Padding.{padding}
-use Rattle.user_keys.specs.PrincipalLogins.{DecidesFirst, IsPrincipalLine, principal_login}
-use Rattle.user_keys.specs.Principals.{Decides, MayDecide}
+use Rattle.user_keys.specs.Principals.{DecidesFirst, IsPrincipalLine, principal_login, Decides, MayDecide}
 use Rattle.user_keys.proofs.CertificateLogins.{admitted, strict_by, unlisted, unread, unwanted}
 use Rattle.user_keys.proofs.Principals.{named, not_allowed, one_name, undecided, unnamed}
 use Rattle.user_keys.proofs.principal.log_in_by_principal.Goals as goal

@@ -1,5 +1,5 @@
 use Rattle.std.proofs.Common.{length}
-use Rattle.user_keys.specs.Skips.{SkipsLines}
+use Rattle.user_keys.specs.Spellings.{SkipsLines}
 use Rattle.user_keys.proofs.skip.skip_lines.Given as goal
 
 -- the lines so far have none

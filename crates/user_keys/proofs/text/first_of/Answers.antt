@@ -1,5 +1,5 @@
 use Rattle.memchr.specs.Find.{is_byte}
-use Rattle.user_keys.proofs.Searches.{first_place}
+use Rattle.user_keys.proofs.Spellings.{first_place}
 use Rattle.user_keys.proofs.text.first_of.Goals as goal
 
 pub returns : goal.returns

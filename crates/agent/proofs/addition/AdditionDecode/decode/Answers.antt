@@ -5,7 +5,7 @@ use Rattle.ssh_key.proofs.Lawful.{checked_read}
 use Rattle.ssh_key.specs.model.KeyPairs.{keypair_format}
 use Rattle.ssh_key.proofs.Stopping.{mapped_stops}
 use Rattle.agent.specs.Records.{addition_of_parts}
-use Rattle.agent.proofs.Additions.{read_plain}
+use Rattle.agent.proofs.Records.{read_plain}
 use Rattle.agent.proofs.addition.AdditionDecode.decode.Goals as goal
 
 pub invariant_of-result : goal.invariant_of-result

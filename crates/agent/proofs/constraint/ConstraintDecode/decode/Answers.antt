@@ -4,7 +4,7 @@ use Rattle.ssh_key.specs.base.Causes.{cause}
 use Rattle.ssh_key.proofs.Chosen.{chosen_asks, chosen_gives, chosen_refused, chosen_stopped, chosen_stops}
 use Rattle.ssh_key.proofs.Lawful.{byte_lawful, called_chosen, tested_lawful}
 use Rattle.ssh_key.proofs.Places.{later_then}
-use Rattle.agent.specs.Constraints.{body_format, constraint_format, constraint_of, kind_format, kind_from}
+use Rattle.agent.specs.Records.{body_format, constraint_format, constraint_of, kind_format, kind_from}
 use Rattle.agent.proofs.Constraints.{constraint_chosen}
 use Rattle.agent.proofs.constraint.ConstraintDecode.decode.Goals as goal
 

@@ -1,7 +1,7 @@
 use Rattle.std.proofs.Common.{rules}
 use Rattle.ssh_key.specs.base.Causes.{cause}
 use Rattle.ssh_key.proofs.Boxes.{boxed_stops, prefixed_asks, prefixed_gives}
-use Rattle.agent.specs.Parts.{message}
+use Rattle.agent.specs.Records.{message}
 use Rattle.agent.proofs.Lawful.{message_lawful}
 use Rattle.agent.proofs.frame.read.decode_frame.Goals as goal
 

@@ -4,7 +4,7 @@ use Rattle.ssh_key.specs.base.Causes.{cause}
 use Rattle.ssh_key.proofs.Chosen.{chosen_asks, chosen_gives, chosen_refused, chosen_stopped, chosen_stops}
 use Rattle.ssh_key.proofs.Lawful.{byte_lawful, called_chosen, tested_lawful}
 use Rattle.ssh_key.proofs.Places.{later_then}
-use Rattle.agent.specs.Parts.{message, numbered}
+use Rattle.agent.specs.Records.{message, numbered}
 use Rattle.agent.proofs.frame.read.message_from.Goals as goal
 
 pub returns-in_err-kind-clause-gives : goal.returns-in_err-kind-clause-gives

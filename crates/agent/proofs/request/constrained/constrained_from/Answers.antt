@@ -5,8 +5,7 @@ use Rattle.ssh_key.proofs.Mapped.{mapped_reads, mapped_refused}
 use Rattle.ssh_key.proofs.Places.{later_then}
 use Rattle.ssh_key.proofs.Steps.{asks_later}
 use Rattle.ssh_key.proofs.Stopping.{mapped_stopped, stopped_first, stopped_later}
-use Rattle.agent.specs.Constraints.{constraint_of, constraints}
-use Rattle.agent.specs.Records.{addition_format, addition_of}
+use Rattle.agent.specs.Records.{constraint_of, constraints, addition_format, addition_of}
 use Rattle.agent.specs.Requests.{request_of}
 use Rattle.agent.proofs.Lawful.{addition_lawful, has_bytes}
 use Rattle.agent.proofs.Requests.{constrained_ends, constrained_read}

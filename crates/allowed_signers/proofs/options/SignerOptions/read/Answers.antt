@@ -1,9 +1,9 @@
 use Rattle.std.proofs.Common.{◌≡◌, ◌∙◌, List, eq-eqb, lit<, subst, sym, true, ℕ}
 use Rattle.sshkey_entries.specs.KnownHosts.{comma}
 use Rattle.sshkey_entries.specs.OptionItems.{MaySay, Says}
-use Rattle.sshkey_entries.specs.Readings.{Tells}
+use Rattle.sshkey_entries.specs.Answers.{Tells}
 use Rattle.sshkey_entries.specs.declared.reading.Reading.{Reading}
-use Rattle.allowed_signers.specs.SignerOptions.{AddsOption, AreTimesInOrder, Terms, no_terms, terms_of}
+use Rattle.allowed_signers.specs.AllowedSigners.{AddsOption, AreTimesInOrder, Terms, no_terms, terms_of}
 use Rattle.allowed_signers.specs.declared.options.SignerOptions.{SignerOptions}
 use Rattle.allowed_signers.proofs.options.SignerOptions.read.Goals as goal
 

@@ -1,7 +1,7 @@
 use Rattle.std.proofs.Common.{subst, sym}
 use Rattle.std.specs.Prelude.{option_map, string_bytes}
-use Rattle.sshkey_entries.specs.Readings.{Tells}
-use Rattle.allowed_signers.specs.SignerOptions.{AddsValue, terms_of}
+use Rattle.sshkey_entries.specs.Answers.{Tells}
+use Rattle.allowed_signers.specs.AllowedSigners.{AddsValue, terms_of}
 use Rattle.allowed_signers.specs.declared.options.Word.{Word}
 use Rattle.allowed_signers.proofs.options.SignerOptions.with_value.Goals as goal
 

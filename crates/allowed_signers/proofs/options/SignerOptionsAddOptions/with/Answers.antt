@@ -1,8 +1,7 @@
 use Rattle.std.proofs.Common.{Ok, ℕ}
 use Rattle.std.specs.Prelude.{option_map, string_bytes}
-use Rattle.sshkey_entries.proofs.Told.{told_as}
-use Rattle.sshkey_entries.proofs.Tables.{by_word}
-use Rattle.allowed_signers.specs.SignerOptions.{AddsOption, AddsValue, terms_of, words}
+use Rattle.sshkey_entries.proofs.OptionItems.{told_as, by_word}
+use Rattle.allowed_signers.specs.AllowedSigners.{AddsOption, AddsValue, terms_of, words}
 use Rattle.allowed_signers.proofs.options.SignerOptionsAddOptions.with.Goals as goal
 
 pub returns-in-Some : goal.returns-in-Some

@@ -1,9 +1,8 @@
 use Rattle.std.proofs.Common.{[], ◌∷◌, refl, ap, ◌∙◌}
 use Rattle.std.proofs.lemmas.Result.{err_from_is_err_and}
 use Rattle.ssh_key.specs.keys.Keys.{key_of}
-use Rattle.ssh_key.specs.krl.Revocation.{Certificates, Krl, Numbers, Signer, with_section}
-use Rattle.ssh_key.specs.krl.Serials.{Listed}
-use Rattle.ssh_key.specs.krl.Owned.{krl_of}
+use Rattle.ssh_key.specs.krl.Revocation.{Certificates, Krl, Numbers, Signer, with_section, Listed}
+use Rattle.ssh_key.specs.krl.Writing.{krl_of}
 use Rattle.authority.proofs.Revoked.{by_other, none_begun, not_added, stated, takes_back}
 use Rattle.authority.proofs.authority.Authority.krl.Goals as goal
 

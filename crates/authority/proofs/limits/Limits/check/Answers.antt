@@ -2,8 +2,7 @@ use Rattle.std.proofs.Common.{◌≡◌, ◌∙◌, sym, true}
 use Rattle.std.specs.Prelude.{string_bytes}
 use Rattle.ssh_key.specs.keys.Keys.{key_of}
 use Rattle.ssh_key.specs.model.Lines.{IsWithout}
-use Rattle.authority.specs.CertifiedKeys.{IsCertifiable}
-use Rattle.authority.specs.Requests.{AreAllowed, ArePermitted, HasAllowedWindow, OtherExtensions, OtherKey, OtherKeyId, OtherUsers, OtherWindow}
+use Rattle.authority.specs.Issuance.{IsCertifiable, AreAllowed, ArePermitted, HasAllowedWindow, OtherExtensions, OtherKey, OtherKeyId, OtherUsers, OtherWindow}
 use Rattle.authority.proofs.Lists.{each_allowed, without_zero}
 use Rattle.authority.proofs.limits.Limits.check.Goals as goal
 

@@ -5,9 +5,8 @@ use Rattle.sshkey_matching.proofs.AskedHosts.{no_fault, one_asked}
 use Rattle.sshkey_matching.specs.AskedHosts.{IsHostFault}
 use Rattle.sshkey_matching.specs.declared.host.HostFault.TheVariants as fault
 use Rattle.sshkey_entries.specs.Fields.{filled_lines}
-use Rattle.sshkey_entries.specs.HostNames.{known_name, standard_port}
-use Rattle.sshkey_known_hosts.specs.HeldLines.{held_lines}
-use Rattle.sshkey_known_hosts.specs.SameLines.{SaySame}
+use Rattle.sshkey_entries.specs.HostVerdicts.{known_name, standard_port}
+use Rattle.sshkey_known_hosts.specs.HeldLines.{held_lines, SaySame}
 use Rattle.sshkey_known_hosts.proofs.HeldLines.{same_more}
 use Rattle.host_keys.specs.Hosts.{lines_of}
 use Rattle.host_keys.proofs.host_check.HostCheck.texts_with.Goals as goal

@@ -1,7 +1,6 @@
 use Rattle.std.specs.Prelude.{option_map, string_bytes}
-use Rattle.sshkey_entries.proofs.Tables.{by_word}
-use Rattle.login_terms.specs.Terms.{AddsWord, MayBeWord, terms_of}
-use Rattle.login_terms.specs.Words.{words}
+use Rattle.sshkey_entries.proofs.OptionItems.{by_word}
+use Rattle.login_terms.specs.Options.{AddsWord, MayBeWord, terms_of, words}
 use Rattle.login_terms.proofs.options.TermsAddOptions.with.Goals as goal
 
 pub returns-in-Some : goal.returns-in-Some

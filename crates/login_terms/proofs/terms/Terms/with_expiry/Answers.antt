@@ -2,8 +2,8 @@ use Rattle.std.proofs.Common.{Some, List, ap, subst, ℕ}
 use Rattle.std.specs.Prelude.{string_bytes}
 use Rattle.sshkey_matching.specs.Times.{IsTimeText}
 use Rattle.sshkey_matching.specs.declared.times.Span.{Span}
-use Rattle.sshkey_entries.specs.Readings.{Tells}
-use Rattle.login_terms.specs.Terms.{earlier, terms_of}
+use Rattle.sshkey_entries.specs.Answers.{Tells}
+use Rattle.login_terms.specs.Options.{earlier, terms_of}
 use Rattle.login_terms.specs.Values.{MayBeTime}
 use Rattle.sshkey_entries.specs.declared.reading.Reading.TheVariants.{Is, Rejected, Unclear}
 use Rattle.login_terms.proofs.Added.{adds, adds_none}

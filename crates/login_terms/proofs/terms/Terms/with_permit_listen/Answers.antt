@@ -1,8 +1,8 @@
 use Rattle.std.proofs.Common.{◌≡◌, ◌∙◌, ◌∷◌, ◌++◌, [], List, ap, arith, subst, ℕ}
 use Rattle.std.specs.Prelude.{map, string_bytes}
 use Rattle.std.proofs.lemmas.List.{length-map, map-append}
-use Rattle.sshkey_entries.specs.Readings.{Tells}
-use Rattle.login_terms.specs.Terms.{terms_of}
+use Rattle.sshkey_entries.specs.Answers.{Tells}
+use Rattle.login_terms.specs.Options.{terms_of}
 use Rattle.login_terms.specs.Values.{HostAndPort, IsPermitListen, MayBeListen, permit_of}
 use Rattle.login_terms.specs.declared.permits.Permit.{Permit}
 use Rattle.sshkey_entries.specs.declared.reading.Reading.{Reading}

@@ -1,7 +1,7 @@
 use Rattle.std.proofs.Common.{Some, List, subst, ℕ}
 use Rattle.std.specs.Prelude.{string_bytes}
-use Rattle.sshkey_entries.specs.Readings.{Tells}
-use Rattle.login_terms.specs.Terms.{terms_of}
+use Rattle.sshkey_entries.specs.Answers.{Tells}
+use Rattle.login_terms.specs.Options.{terms_of}
 use Rattle.login_terms.specs.Values.{IsTunnel, MayBeTunnel}
 use Rattle.sshkey_entries.specs.declared.reading.Reading.TheVariants.{Rejected}
 use Rattle.login_terms.proofs.Added.{adds_none}

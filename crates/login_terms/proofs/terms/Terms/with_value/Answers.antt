@@ -1,7 +1,7 @@
 use Rattle.std.proofs.Common.{IfOk, subst, sym}
 use Rattle.std.specs.Prelude.{string_bytes}
-use Rattle.sshkey_entries.specs.Readings.{Tells}
-use Rattle.login_terms.specs.Terms.{AddsValue, MayBeValue, terms_of}
+use Rattle.sshkey_entries.specs.Answers.{Tells}
+use Rattle.login_terms.specs.Options.{AddsValue, MayBeValue, terms_of}
 use Rattle.login_terms.specs.declared.words.Word.{Word}
 use Rattle.login_terms.proofs.terms.Terms.with_value.Goals as goal
 

@@ -2,7 +2,7 @@ use Rattle.std.proofs.Common.{◌≡◌, ◌∙◌, ◌∷◌, ◌++◌, [], Lis
 use Rattle.std.specs.Prelude.{map, string_bytes}
 use Rattle.std.specs.List.{Any}
 use Rattle.std.proofs.lemmas.List.{length-map, map-append}
-use Rattle.login_terms.specs.Terms.{terms_of}
+use Rattle.login_terms.specs.Options.{terms_of}
 use Rattle.login_terms.specs.Values.{IsVariable}
 use Rattle.login_terms.proofs.Added.{known, new_one, no_variable}
 use Rattle.login_terms.proofs.terms.Terms.with_variable.Goals as goal

@@ -1,6 +1,6 @@
 use Rattle.std.proofs.Common.{◌∙◌, inr, refl, sym}
 use Rattle.publickey_login.specs.Results.{authority_in}
-use Rattle.publickey_login.proofs.Answered.{not_said, said_not, said_so, yes_said, yes_unasked}
+use Rattle.publickey_login.proofs.Pendings.{not_said, said_not, said_so, yes_said, yes_unasked}
 use Rattle.publickey_login.proofs.pending_login.Pending.decide.Goals as goal
 use Rattle.publickey_login.proofs.pending_login.Pending.decide.Goals.{else-is_some-via-then-is_some+else-not-answers, else-is_some-via-else-is_some}
 

@@ -1,5 +1,5 @@
 use Rattle.std.proofs.lemmas.Result.{err_from_is_err_and}
-use Rattle.sshkey_authorized_keys.proofs.Options.{uncut, bad_options, bad_key, uncut_fault, options_asked, options_fault, options_needed, key_fault}
+use Rattle.sshkey_authorized_keys.proofs.Entries.{uncut, bad_options, bad_key, uncut_fault, options_asked, options_fault, options_needed, key_fault}
 use Rattle.sshkey_authorized_keys.proofs.entry.Entry.after_options.Goals as goal
 
 pub returns-in_default-clause-reads : goal.returns-in_default-clause-reads

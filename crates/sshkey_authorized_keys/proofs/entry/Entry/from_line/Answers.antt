@@ -1,5 +1,5 @@
 use Rattle.std.proofs.Common.{inl, sym, ◌∙◌, arith}
-use Rattle.sshkey_authorized_keys.proofs.Options.{few_spaces, line_asks, only_options, no_space_fault, line_fault}
+use Rattle.sshkey_authorized_keys.proofs.Entries.{few_spaces, line_asks, only_options, no_space_fault, line_fault}
 use Rattle.sshkey_authorized_keys.proofs.entry.Entry.from_line.Goals as goal
 
 pub after_options-requires : goal.after_options-requires

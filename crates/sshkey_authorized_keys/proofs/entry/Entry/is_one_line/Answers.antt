@@ -1,9 +1,9 @@
 use Rattle.std.proofs.Common.{sym, subst, ◌∙◌}
 use Rattle.sshkey_model.specs.Lines.{key_line}
-use Rattle.sshkey_public.specs.OneLine.{IsOneLine}
+use Rattle.sshkey_public.specs.WrittenLines.{IsOneLine}
 use Rattle.sshkey_public.specs.PublicKeys.{public_of, comment_of}
 use Rattle.sshkey_authorized_keys.specs.AuthorizedEntries.{key_in, options_of}
-use Rattle.sshkey_authorized_keys.proofs.OneLine.{written_so, so_written}
+use Rattle.sshkey_authorized_keys.proofs.Entries.{written_so, so_written}
 use Rattle.sshkey_authorized_keys.proofs.entry.Entry.is_one_line.Goals as goal
 
 pub returns-then-is_one_line : goal.returns-then-is_one_line

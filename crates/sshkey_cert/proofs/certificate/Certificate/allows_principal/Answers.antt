@@ -1,4 +1,4 @@
-use Rattle.sshkey_cert.specs.CertificateValues.{certificate_of}
+use Rattle.sshkey_cert.specs.Certificates.{certificate_of}
 use Rattle.sshkey_model.proofs.Refusals.{allowed, allows_it}
 use Rattle.sshkey_cert.proofs.certificate.Certificate.allows_principal.Goals as goal
 

@@ -5,8 +5,8 @@ use Rattle.sshkey_base.specs.Source.{all_of}
 use Rattle.sshkey_base.proofs.Accepted.{accepts_whole, finish_refused, finish_asks}
 use Rattle.sshkey_base.proofs.Steps.{refused_first}
 use Rattle.sshkey_model.specs.Certificates.{certificate_format}
-use Rattle.sshkey_cert.proofs.CertificateReaders.{certificate_grammar}
-use Rattle.sshkey_cert.specs.CertificateValues.{certificate_of}
+use Rattle.sshkey_cert.proofs.Certificates.{certificate_grammar}
+use Rattle.sshkey_cert.specs.Certificates.{certificate_of}
 use Rattle.sshkey_cert.proofs.Finished.{finished}
 use Rattle.sshkey_cert.proofs.certificate.Certificate.from_bytes.Goals as goal
 

@@ -1,8 +1,8 @@
 use Rattle.sshkey_model.specs.Certificates.{normal_certificate}
 use Rattle.sshkey_model.specs.Keys.{key_algorithm}
 use Rattle.sshkey_model.specs.Parts.{flat}
-use Rattle.sshkey_cert.specs.CertificateValues.{certificate_of}
-use Rattle.sshkey_cert.proofs.OneLines.{one_line_certified}
+use Rattle.sshkey_cert.specs.Certificates.{certificate_of}
+use Rattle.sshkey_cert.proofs.Lines.{one_line_certified}
 use Rattle.sshkey_cert.proofs.certificate.Certificate.is_one_line.Goals as goal
 
 pub returns : goal.returns

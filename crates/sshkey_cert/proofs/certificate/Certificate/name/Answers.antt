@@ -5,7 +5,7 @@ use Rattle.sshkey_base.specs.Causes.{widened}
 use Rattle.sshkey_base.proofs.Writing.{boxes_bytes, vector_refused}
 use Rattle.sshkey_model.specs.Lines.{name_of_certificate}
 use Rattle.sshkey_model.specs.Parts.{bytes}
-use Rattle.sshkey_cert.specs.CertificateValues.{certificate_of}
+use Rattle.sshkey_cert.specs.Certificates.{certificate_of}
 use Rattle.sshkey_cert.proofs.Lines.{vector_bytes, text_bytes}
 use Rattle.sshkey_cert.proofs.certificate.Certificate.name.Goals as goal
 

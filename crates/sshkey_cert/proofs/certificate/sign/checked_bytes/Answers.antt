@@ -1,5 +1,5 @@
-use Rattle.sshkey_cert_values.specs.ToBeSignedValues.{to_be_signed_of}
-use Rattle.sshkey_cert.proofs.Signing.{blob_fits}
+use Rattle.sshkey_cert_values.specs.CertificateFields.{to_be_signed_of}
+use Rattle.sshkey_cert.proofs.NormalForms.{blob_fits}
 use Rattle.sshkey_cert.proofs.certificate.sign.checked_bytes.Goals as goal
 
 pub returns-clause-fits : goal.returns-clause-fits

@@ -1,6 +1,6 @@
 use Rattle.std.proofs.Common.{sym, ◌∙◌, inl, inr}
 use Rattle.std.proofs.lemmas.Result.{err_from_is_err_and}
-use Rattle.sshkey_cert.proofs.KeysOrCertificates.{name_needs, no_certificate, no_key}
+use Rattle.sshkey_cert.proofs.Certificates.{name_needs, no_certificate, no_key}
 use Rattle.sshkey_cert.proofs.key_or_certificate.KeyOrCertificate.from_bytes.Goals as goal
 
 pub returns-in_err-from_bytes-clause-accepts : goal.returns-in_err-from_bytes-clause-accepts

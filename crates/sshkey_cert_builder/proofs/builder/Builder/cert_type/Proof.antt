@@ -6,7 +6,7 @@ use Rattle.sshkey_cert_builder.proofs.builder.Builder.chain_cert_type.Met as g_m
 use Rattle.sshkey_cert_builder.proofs.builder.Builder.cert_type.Statement.{statement}
 use Rattle.sshkey_cert_builder.proofs.builder.Builder.cert_type.Code as code
 use Rattle.sshkey_model.specs.Drafts.{Kind}
-use Rattle.sshkey_cert_values.specs.CertTypes.{type_of}
+use Rattle.sshkey_cert_values.specs.CertificateFields.{type_of}
 
 abbrev stayed : Stays F.ended.signature.params F.ended.kept
 stayed = (stay_dropped (RefMutOf (0 ∷ []) tt (plain (λ _. R)) (λ _. tt)) no, (stay_dropped (plain (λ _. CertType)) yes, tt))

@@ -6,7 +6,7 @@ use Rattle.sshkey_cert_builder.proofs.builder.Builder.chain_extension.Met as g_m
 use Rattle.sshkey_cert_builder.proofs.builder.Builder.extension.Statement.{statement}
 use Rattle.sshkey_cert_builder.proofs.builder.Builder.extension.Code as code
 use Rattle.sshkey_model.specs.Drafts.{Extension}
-use Rattle.sshkey_cert_values.specs.OptionMaps.{option_of}
+use Rattle.sshkey_cert_values.specs.CertificateFields.{option_of}
 
 abbrev stayed : Stays F.ended.signature.params F.ended.kept
 stayed = (stay_dropped (RefMutOf (0 ∷ []) tt (plain (λ _. R)) (λ _. tt)) no, (stay_dropped (plain (λ _. Text)) yes, (stay_dropped (plain (λ _. Text)) yes, tt)))

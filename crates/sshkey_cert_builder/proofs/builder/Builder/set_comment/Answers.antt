@@ -1,6 +1,6 @@
 use Rattle.std.proofs.Common.{sym, ◌∙◌, refl}
 use Rattle.sshkey_model.specs.Drafts.{CommentField}
-use Rattle.sshkey_cert_builder.proofs.Steps.{once_taken, once_refused}
+use Rattle.sshkey_cert_builder.proofs.Drafts.{once_taken, once_refused}
 use Rattle.sshkey_cert_builder.proofs.builder.Builder.set_comment.Goals as goal
 
 pub returns-then-is_some-clause-step : goal.returns-then-is_some-clause-step

@@ -5,9 +5,8 @@ use Rattle.sshkey_keys.specs.Keys.{key_of}
 use Rattle.sshkey_model.specs.Drafts.{drafted}
 use Rattle.sshkey_cert_builder.specs.Builders.{draft_of}
 use Rattle.sshkey_cert.specs.Signing.{PermitsToSign}
-use Rattle.sshkey_cert_values.specs.ToBeSignedValues.{to_be_signed_of}
-use Rattle.sshkey_cert_builder.proofs.Steps.{mapped_some}
-use Rattle.sshkey_cert_builder.proofs.Signed.{drafted_by, signed_of, valid_of, refused_of}
+use Rattle.sshkey_cert_values.specs.CertificateFields.{to_be_signed_of}
+use Rattle.sshkey_cert_builder.proofs.Drafts.{mapped_some, drafted_by, signed_of, valid_of, refused_of}
 use Rattle.sshkey_cert_builder.proofs.builder.Builder.sign.Goals as goal
 
 pub sign-requires : goal.sign-requires

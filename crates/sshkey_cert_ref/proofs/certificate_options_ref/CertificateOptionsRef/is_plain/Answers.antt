@@ -1,6 +1,5 @@
 use Rattle.std.proofs.Common.{sym, ◌∙◌}
-use Rattle.sshkey_cert_ref.proofs.OptionLists.{options_spelled}
-use Rattle.sshkey_cert_ref.proofs.PlainOptions.{plain_exactly, normal_exactly}
+use Rattle.sshkey_cert_ref.proofs.OptionLists.{options_spelled, plain_exactly, normal_exactly}
 use Rattle.sshkey_cert_ref.proofs.certificate_options_ref.CertificateOptionsRef.is_plain.Goals as goal
 
 pub returns-clause-plain : goal.returns-clause-plain

@@ -2,8 +2,7 @@ use Rattle.std.proofs.lemmas.Result.{err_from_is_err_and}
 use Rattle.sshkey_model.specs.Options.{options_at}
 use Rattle.sshkey_base.specs.Causes.{cause, same_cause}
 use Rattle.sshkey_cert_ref.specs.Views.{spelled_options_of}
-use Rattle.sshkey_cert_ref.proofs.BoxedBytes.{no_string, in_string}
-use Rattle.sshkey_cert_ref.proofs.OptionLists.{spelled_from, options_string, kept_options}
+use Rattle.sshkey_cert_ref.proofs.OptionLists.{no_string, in_string, spelled_from, options_string, kept_options}
 use Rattle.sshkey_cert_ref.proofs.certificate_options_ref.CertificateOptionsRefReadFromRefSliceU8.read_from.Goals as goal
 
 pub returns-in_err-string-clause-gives : goal.returns-in_err-string-clause-gives

@@ -1,7 +1,7 @@
 use Rattle.std.proofs.Common.{◌<◌, length, sym, ◌∙◌, arith, refl}
 use Rattle.std.proofs.lemmas.Bool.{eqb-true, eqb-false}
 use Rattle.std.proofs.lemmas.Result.{err_from_is_err_and}
-use Rattle.sshkey_cert_ref.proofs.OptionItems.{value_empty, value_refused, value_taken}
+use Rattle.sshkey_cert_ref.proofs.OptionSteps.{value_empty, value_refused, value_taken}
 use Rattle.sshkey_cert_ref.proofs.certificate_options_ref.item.value_from.Goals as goal
 
 pub returns-then-is_empty : goal.returns-then-is_empty

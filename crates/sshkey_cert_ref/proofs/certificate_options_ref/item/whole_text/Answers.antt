@@ -1,6 +1,6 @@
 use Rattle.std.proofs.lemmas.Result.{err_from_is_err_and}
 use Rattle.std.proofs.Common.{refl}
-use Rattle.sshkey_cert_ref.proofs.OptionItems.{whole_trails, whole_taken}
+use Rattle.sshkey_cert_ref.proofs.OptionSteps.{whole_trails, whole_taken}
 use Rattle.sshkey_cert_ref.proofs.certificate_options_ref.item.whole_text.Goals as goal
 
 pub returns-in_err-text : goal.returns-in_err-text

@@ -1,7 +1,6 @@
-use Rattle.sshkey_cert_ref.specs.Spelled.{spelled_in}
-use Rattle.sshkey_cert_ref.proofs.Certificates.{spelled_by}
-use Rattle.sshkey_cert_ref.proofs.Spellings.{same_signer}
-use Rattle.sshkey_cert_ref.proofs.Asking.{renamed_signer}
+use Rattle.sshkey_cert_ref.specs.Certificates.{spelled_in}
+use Rattle.sshkey_cert_ref.proofs.Certificates.{spelled_by, same_signer}
+use Rattle.sshkey_cert_ref.proofs.Answers.{renamed_signer}
 use Rattle.sshkey_cert_ref.proofs.certificate_ref.CertificateRef.authority.Goals.{in-Ok, in-Err}
 use Rattle.sshkey_cert_ref.proofs.certificate_ref.CertificateRef.authority.Goals as goal
 

@@ -1,7 +1,7 @@
 use Rattle.std.proofs.Common.{inl}
 use Rattle.std.proofs.lemmas.Result.{err_from_is_err_and}
 use Rattle.sshkey_cert_ref.specs.CertificateRef.{certificate_of, choices_of}
-use Rattle.sshkey_cert_ref.proofs.Asking.{unplain}
+use Rattle.sshkey_cert_ref.proofs.Answers.{unplain}
 use Rattle.sshkey_cert_ref.proofs.certificate_ref.CertificateRef.first_refusal.Goals as goal
 
 pub returns-in_err-authority-clause-asks : goal.returns-in_err-authority-clause-asks

@@ -1,6 +1,6 @@
 use Rattle.std.proofs.Common.{refl}
 use Rattle.sshkey_cert_ref.specs.CertificateRef.{certificate_of}
-use Rattle.sshkey_cert_ref.proofs.Answered.{allows_is}
+use Rattle.sshkey_cert_ref.proofs.Answers.{allows_is}
 use Rattle.sshkey_cert_ref.proofs.certificate_ref.CertificateRef.first_refusal_for.Goals as goal
 
 pub returns-clause-first : goal.returns-clause-first

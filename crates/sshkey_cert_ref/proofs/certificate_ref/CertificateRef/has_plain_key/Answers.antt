@@ -1,6 +1,5 @@
-use Rattle.sshkey_cert_ref.specs.Spelled.{spelled_in}
-use Rattle.sshkey_cert_ref.proofs.Certificates.{spelled_by}
-use Rattle.sshkey_cert_ref.proofs.Spellings.{plain_signer}
+use Rattle.sshkey_cert_ref.specs.Certificates.{spelled_in}
+use Rattle.sshkey_cert_ref.proofs.Certificates.{spelled_by, plain_signer}
 use Rattle.sshkey_cert_ref.proofs.certificate_ref.CertificateRef.has_plain_key.Goals as goal
 
 pub returns : goal.returns

@@ -1,8 +1,7 @@
 use Rattle.std.proofs.Common.{inl, inr}
 use Rattle.std.proofs.lemmas.Result.{err_from_is_err_and}
-use Rattle.sshkey_cert_ref.specs.Spelled.{spelled_in}
-use Rattle.sshkey_cert_ref.proofs.Certificates.{spelled_by}
-use Rattle.sshkey_cert_ref.proofs.Spellings.{signer_spells, signature_spells}
+use Rattle.sshkey_cert_ref.specs.Certificates.{spelled_in}
+use Rattle.sshkey_cert_ref.proofs.Certificates.{spelled_by, signer_spells, signature_spells}
 use Rattle.sshkey_cert_ref.proofs.certificate_ref.CertificateRef.is_signed.Goals as goal
 
 pub returns-clause-yes : goal.returns-clause-yes

@@ -6,13 +6,11 @@ use Rattle.sshkey_keys.specs.Keys.{key_of}
 use Rattle.sshkey_model.specs.Keys.{body_at}
 use Rattle.sshkey_model.specs.Names.{Algorithm}
 use Rattle.sshkey_model.proofs.CombinedReaders.{ok_is}
-use Rattle.sshkey_cert_ref.specs.Spelled.{spelled_in}
+use Rattle.sshkey_cert_ref.specs.Certificates.{spelled_in}
 use Rattle.sshkey_base.proofs.Judging.{only_memory}
-use Rattle.sshkey_cert.proofs.KeysOfCertificates.{certified_key_is}
-use Rattle.sshkey_cert_ref.proofs.Answered.{given_front, well_formed}
-use Rattle.sshkey_cert_ref.proofs.Certificates.{spelled_by, spells}
-use Rattle.sshkey_cert_ref.proofs.KeysInPlace.{body_in_place, name_listed}
-use Rattle.sshkey_cert_ref.proofs.Spellings.{name_is, body_is}
+use Rattle.sshkey_cert.proofs.Certificates.{certified_key_is}
+use Rattle.sshkey_cert_ref.proofs.Answers.{given_front, well_formed, body_in_place, name_listed}
+use Rattle.sshkey_cert_ref.proofs.Certificates.{spelled_by, spells, name_is, body_is}
 use Rattle.sshkey_cert_ref.proofs.certificate_ref.CertificateRef.public_key.Goals as goal
 
 pub returns-in_err-algorithm-clause-memory : goal.returns-in_err-algorithm-clause-memory

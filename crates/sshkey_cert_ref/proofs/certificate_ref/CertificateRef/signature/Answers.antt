@@ -1,9 +1,8 @@
 use Rattle.sshkey_base.specs.Causes.{cause}
 use Rattle.sshkey_keys.specs.Signatures.{signature_of}
-use Rattle.sshkey_cert_ref.specs.Spelled.{spelled_in}
-use Rattle.sshkey_cert_ref.proofs.Answered.{answered}
-use Rattle.sshkey_cert_ref.proofs.Certificates.{spelled_by}
-use Rattle.sshkey_cert_ref.proofs.Spellings.{signature_is}
+use Rattle.sshkey_cert_ref.specs.Certificates.{spelled_in}
+use Rattle.sshkey_cert_ref.proofs.Answers.{answered}
+use Rattle.sshkey_cert_ref.proofs.Certificates.{spelled_by, signature_is}
 use Rattle.sshkey_cert_ref.proofs.certificate_ref.CertificateRef.signature.Goals as goal
 
 pub returns-clause-value : goal.returns-clause-value

@@ -1,9 +1,8 @@
 use Rattle.sshkey_base.specs.Causes.{cause}
 use Rattle.sshkey_keys.specs.Keys.{key_of}
-use Rattle.sshkey_cert_ref.specs.Spelled.{spelled_in}
-use Rattle.sshkey_cert_ref.proofs.Answered.{answered, well_formed}
-use Rattle.sshkey_cert_ref.proofs.Certificates.{spelled_by, spells}
-use Rattle.sshkey_cert_ref.proofs.Spellings.{signer_is, signer_spells}
+use Rattle.sshkey_cert_ref.specs.Certificates.{spelled_in}
+use Rattle.sshkey_cert_ref.proofs.Answers.{answered, well_formed}
+use Rattle.sshkey_cert_ref.proofs.Certificates.{spelled_by, spells, signer_is, signer_spells}
 use Rattle.sshkey_cert_ref.proofs.certificate_ref.CertificateRef.signature_key.Goals as goal
 
 pub returns-clause-value : goal.returns-clause-value

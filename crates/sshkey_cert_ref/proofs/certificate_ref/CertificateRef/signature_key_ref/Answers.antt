@@ -1,6 +1,5 @@
-use Rattle.sshkey_cert_ref.specs.Spelled.{spelled_in}
-use Rattle.sshkey_cert_ref.proofs.Certificates.{spelled_by}
-use Rattle.sshkey_cert_ref.proofs.Spellings.{signer_spells}
+use Rattle.sshkey_cert_ref.specs.Certificates.{spelled_in}
+use Rattle.sshkey_cert_ref.proofs.Certificates.{spelled_by, signer_spells}
 use Rattle.sshkey_cert_ref.proofs.certificate_ref.CertificateRef.signature_key_ref.Goals as goal
 
 pub returns-clause-spelled : goal.returns-clause-spelled

@@ -1,6 +1,5 @@
-use Rattle.sshkey_cert_ref.specs.Spelled.{spelled_in}
-use Rattle.sshkey_cert_ref.proofs.Certificates.{spelled_by}
-use Rattle.sshkey_cert_ref.proofs.Spellings.{before_signature}
+use Rattle.sshkey_cert_ref.specs.Certificates.{spelled_in}
+use Rattle.sshkey_cert_ref.proofs.Certificates.{spelled_by, before_signature}
 use Rattle.sshkey_cert_ref.proofs.certificate_ref.CertificateRef.signed_bytes.Goals as goal
 
 pub returns-clause-front : goal.returns-clause-front

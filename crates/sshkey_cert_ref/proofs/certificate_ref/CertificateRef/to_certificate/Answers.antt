@@ -2,10 +2,10 @@ use Rattle.sshkey_base.specs.Causes.{cause}
 use Rattle.sshkey_base.proofs.Accepted.{spelled_whole}
 use Rattle.sshkey_model.specs.Reading.{whole}
 use Rattle.sshkey_model.specs.Certificates.{certificate_format}
-use Rattle.sshkey_cert.specs.CertificateValues.{certificate_of}
-use Rattle.sshkey_cert.proofs.CertificateReaders.{certificate_grammar}
-use Rattle.sshkey_cert_ref.specs.Spelled.{spelled_in}
-use Rattle.sshkey_cert_ref.proofs.Answered.{given_whole}
+use Rattle.sshkey_cert.specs.Certificates.{certificate_of}
+use Rattle.sshkey_cert.proofs.Certificates.{certificate_grammar}
+use Rattle.sshkey_cert_ref.specs.Certificates.{spelled_in}
+use Rattle.sshkey_cert_ref.proofs.Answers.{given_whole}
 use Rattle.sshkey_cert_ref.proofs.Certificates.{spells}
 use Rattle.sshkey_cert_ref.proofs.certificate_ref.CertificateRef.to_certificate.Goals as goal
 

@@ -1,6 +1,6 @@
 use Rattle.sshkey_model.proofs.Refusals.{none_where_valid}
 use Rattle.sshkey_cert.proofs.Given.{exactly}
-use Rattle.sshkey_cert_ref.proofs.Asking.{told}
+use Rattle.sshkey_cert_ref.proofs.Answers.{told}
 use Rattle.sshkey_cert_ref.proofs.certificate_ref.CertificateRef.validate_at.Goals as goal
 
 pub returns-clause-exactly : goal.returns-clause-exactly

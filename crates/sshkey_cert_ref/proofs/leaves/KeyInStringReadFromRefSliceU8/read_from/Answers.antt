@@ -4,10 +4,10 @@ use Rattle.sshkey_model.specs.Keys.{key_at}
 use Rattle.sshkey_model.specs.Reading.{whole, box_at}
 use Rattle.sshkey_base.specs.Causes.{cause, same_cause}
 use Rattle.sshkey_terms.proofs.SliceFronts.{answers_ok}
-use Rattle.sshkey_cert_ref.specs.Fields.{spelled_key_of}
+use Rattle.sshkey_cert_ref.specs.Certificates.{spelled_key_of}
 use Rattle.sshkey_cert_ref.specs.declared.leaves.KeyInString.{KeyInString}
 use Rattle.sshkey_cert_ref.proofs.LengthPrefixed.{kept_key}
-use Rattle.sshkey_cert_ref.proofs.BoxedBytes.{box_bytes, no_string, in_string}
+use Rattle.sshkey_cert_ref.proofs.OptionLists.{box_bytes, no_string, in_string}
 use Rattle.sshkey_cert_ref.proofs.leaves.KeyInStringReadFromRefSliceU8.read_from.Goals as goal
 
 pub returns-in_err-string-clause-gives : goal.returns-in_err-string-clause-gives

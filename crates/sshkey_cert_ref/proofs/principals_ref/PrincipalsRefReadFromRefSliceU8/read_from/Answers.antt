@@ -3,7 +3,7 @@ use Rattle.std.proofs.lemmas.Result.{err_from_is_err_and}
 use Rattle.sshkey_model.specs.Texts.{texts_at, text_list_at}
 use Rattle.sshkey_base.specs.Causes.{encoding_cause}
 use Rattle.sshkey_cert_ref.specs.Views.{texts_of}
-use Rattle.sshkey_cert_ref.proofs.BoxedBytes.{box_bytes, no_string, in_string}
+use Rattle.sshkey_cert_ref.proofs.OptionLists.{box_bytes, no_string, in_string}
 use Rattle.sshkey_cert_ref.proofs.TextSteps.{kept_texts}
 use Rattle.sshkey_cert_ref.proofs.principals_ref.PrincipalsRefReadFromRefSliceU8.read_from.Goals as goal
 

@@ -1,6 +1,6 @@
 use Rattle.std.proofs.Common.{arith}
 use Rattle.sshkey_base.proofs.Tails.{two, three}
-use Rattle.sshkey_cert_values.proofs.Names.{name_measured}
+use Rattle.sshkey_cert_values.proofs.WrittenFields.{name_measured}
 use Rattle.sshkey_cert_values.proofs.certificate_fields.CertificateFieldsEncode.encoded_len.Goals as goal
 
 pub returns-clause-measures : goal.returns-clause-measures

@@ -1,7 +1,7 @@
 use Rattle.std.proofs.Common.{ap, sym, ◌∙◌, option_map, map}
 use Rattle.std.proofs.lemmas.Result.{err_from_is_err_and}
 use Rattle.std.specs.Prelude.{string_bytes}
-use Rattle.sshkey_cert_values.specs.OptionMaps.{option_of}
+use Rattle.sshkey_cert_values.specs.CertificateFields.{option_of}
 use Rattle.sshkey_cert_values.proofs.OptionNames.{found, inserted}
 use Rattle.sshkey_cert_values.proofs.options_map.OptionsMap.insert.Goals as goal
 

@@ -1,6 +1,6 @@
 use Rattle.std.proofs.Common.{◌≡◌, ◌∙◌, true, false, refl, rules}
 use Rattle.std.specs.List.{list_all}
-use Rattle.sshkey_cert_values.specs.OptionMaps.{is_among, options_of}
+use Rattle.sshkey_cert_values.specs.CertificateFields.{is_among, options_of}
 use Rattle.sshkey_cert_values.proofs.OptionsAmong.{all_among}
 use Rattle.sshkey_cert_values.proofs.options_map.OptionsMap.names_are_subset_of.Goals as goal
 

@@ -1,6 +1,6 @@
 use Rattle.std.proofs.Common.{◌≡◌, map}
 use Rattle.std.specs.List.{list_all}
-use Rattle.sshkey_cert_values.specs.OptionMaps.{is_among, option_of, options_of}
+use Rattle.sshkey_cert_values.specs.CertificateFields.{is_among, option_of, options_of}
 use Rattle.sshkey_cert_values.proofs.options_map.OptionsMap.names_are_subset_of.Given as goal
 
 -- the rest decides

@@ -3,7 +3,7 @@ use Rattle.sshkey_model.specs.Needs.{HasString}
 use Rattle.sshkey_model.specs.Options.{option_list_format, options_value_at}
 use Rattle.sshkey_base.specs.Causes.{cause}
 use Rattle.sshkey_base.proofs.FilledBoxes.{filled_stops}
-use Rattle.sshkey_cert_values.specs.OptionMaps.{options_of}
+use Rattle.sshkey_cert_values.specs.CertificateFields.{options_of}
 use Rattle.sshkey_cert_values.proofs.Lawful.{option_list_lawful}
 use Rattle.sshkey_cert_values.proofs.options_map.OptionsMapDecode.decode.Goals as goal
 

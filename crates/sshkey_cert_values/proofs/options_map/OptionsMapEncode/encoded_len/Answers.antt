@@ -3,8 +3,8 @@ use Rattle.std.proofs.lemmas.Result.{err_from_is_err_and}
 use Rattle.sshkey_model.specs.Parts.{each}
 use Rattle.sshkey_base.proofs.Writing.{length_box}
 use Rattle.sshkey_model.specs.Options.{plain_option}
-use Rattle.sshkey_cert_values.specs.OptionMaps.{options_of}
-use Rattle.sshkey_cert_values.proofs.WrittenOptions.{normal_is}
+use Rattle.sshkey_cert_values.specs.CertificateFields.{options_of}
+use Rattle.sshkey_cert_values.proofs.WrittenFields.{normal_is}
 use Rattle.sshkey_cert_values.proofs.options_map.OptionsMapEncode.encoded_len.Goals as goal
 
 pub returns-in_err-each_len-clause-measures : goal.returns-in_err-each_len-clause-measures

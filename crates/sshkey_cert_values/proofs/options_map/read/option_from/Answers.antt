@@ -4,8 +4,7 @@ use Rattle.sshkey_base.specs.Causes.{same_cause}
 use Rattle.sshkey_base.proofs.Steps.{refused_first, refused_later}
 use Rattle.std.specs.Prelude.{string_bytes}
 use Rattle.sshkey_model.specs.Reading.{after_at}
-use Rattle.sshkey_cert_values.proofs.OptionNeeds.{text_read}
-use Rattle.sshkey_cert_values.proofs.OptionStops.{name_stopped, value_stopped, order_stopped}
+use Rattle.sshkey_cert_values.proofs.OptionReaders.{text_read, name_stopped, value_stopped, order_stopped}
 use Rattle.sshkey_cert_values.proofs.options_map.read.option_from.Goals as goal
 
 pub returns-in_err-value-clause-gives : goal.returns-in_err-value-clause-gives

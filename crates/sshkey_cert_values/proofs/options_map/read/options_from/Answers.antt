@@ -7,15 +7,11 @@ use Rattle.sshkey_base.specs.Source.{announced_len}
 use Rattle.sshkey_base.proofs.Places.{later_none, later_then}
 use Rattle.sshkey_base.proofs.ReadLists.{collects_none, collects_more, collects_refused, collects_end, overruns_more}
 use Rattle.sshkey_model.specs.Options.{may_follow}
-use Rattle.sshkey_cert_values.proofs.Lawful.{option_lawful, value_lawful}
-use Rattle.sshkey_cert_values.proofs.OptionLists.{item}
-use Rattle.sshkey_cert_values.specs.OptionMaps.{option_of, options_of, name_at_end}
-use Rattle.sshkey_cert_values.specs.GatheredPairs.{gathered_pairs}
+use Rattle.sshkey_cert_values.proofs.Lawful.{option_lawful, value_lawful, item}
+use Rattle.sshkey_cert_values.specs.CertificateFields.{option_of, options_of, name_at_end, gathered_pairs}
 use Rattle.sshkey_base.specs.Causes.{cause}
-use Rattle.sshkey_cert_values.proofs.OptionNeeds.{OverrunsOption, option_stands, options_ask, options_stopped, some_stand}
-use Rattle.sshkey_cert_values.proofs.OptionNames.{end_added}
-use Rattle.sshkey_cert_values.proofs.OptionValues.{item_read}
-use Rattle.sshkey_cert_values.proofs.RisingNames.{first_rises, rise_more}
+use Rattle.sshkey_cert_values.proofs.OptionReaders.{OverrunsOption, option_stands, options_ask, options_stopped, some_stand, item_read}
+use Rattle.sshkey_cert_values.proofs.OptionNames.{end_added, first_rises, rise_more}
 use Rattle.sshkey_cert_values.proofs.options_map.read.options_from.Goals as goal
 
 pub reads-init : goal.reads-init

@@ -2,10 +2,9 @@ use Rattle.std.proofs.Common.{◌≡◌, Option, map}
 use Rattle.sshkey_model.specs.Options.{CertificateOption, name_before}
 use Rattle.sshkey_base.specs.Source.{Later, announced_len}
 use Rattle.sshkey_base.proofs.ReadLists.{Collects, StillOverruns}
-use Rattle.sshkey_cert_values.specs.OptionMaps.{option_of, name_at_end, NamesRise}
-use Rattle.sshkey_cert_values.specs.GatheredPairs.{gathered_pairs}
-use Rattle.sshkey_cert_values.proofs.OptionLists.{item}
-use Rattle.sshkey_cert_values.proofs.OptionNeeds.{Begun, OverrunsOption}
+use Rattle.sshkey_cert_values.specs.CertificateFields.{option_of, name_at_end, NamesRise, gathered_pairs}
+use Rattle.sshkey_cert_values.proofs.Lawful.{item}
+use Rattle.sshkey_cert_values.proofs.OptionReaders.{Begun, OverrunsOption}
 use Rattle.sshkey_cert_values.proofs.options_map.read.options_from.Given as goal
 
 abbrev pub invariant-reads : goal.invariant-reads

@@ -5,8 +5,7 @@ use Rattle.sshkey_model.specs.Texts.{text_at}
 use Rattle.sshkey_base.specs.Causes.{encoding_cause}
 use Rattle.sshkey_model.specs.Needs.{NeedsString}
 use Rattle.sshkey_model.specs.Overruns.{OverrunsString}
-use Rattle.sshkey_cert_values.proofs.OptionStops.{stops_to_end}
-use Rattle.sshkey_cert_values.proofs.OptionValues.{value_read, value_none}
+use Rattle.sshkey_cert_values.proofs.OptionReaders.{stops_to_end, value_read, value_none}
 use Rattle.sshkey_cert_values.proofs.options_map.read.value_from.Goals as goal
 
 pub returns-then-is_finished-clause-gives : goal.returns-then-is_finished-clause-gives

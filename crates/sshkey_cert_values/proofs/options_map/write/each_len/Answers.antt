@@ -2,7 +2,7 @@ use Rattle.std.proofs.Common.{arith}
 use Rattle.std.proofs.lemmas.Map.Iter.{rest_more, rest_all}
 use Rattle.std.proofs.lemmas.Result.{err_from_is_err_and}
 use Rattle.std.specs.Map.Iter.{deref_pair}
-use Rattle.sshkey_cert_values.proofs.WrittenOptions.{len_more, len_misfit, len_past, len_end}
+use Rattle.sshkey_cert_values.proofs.WrittenFields.{len_more, len_misfit, len_past, len_end}
 use Rattle.sshkey_cert_values.proofs.options_map.write.each_len.Goals as goal
 
 pub returns-in_err-encoded_len : goal.returns-in_err-encoded_len

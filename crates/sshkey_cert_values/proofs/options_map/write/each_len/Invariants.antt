@@ -1,4 +1,4 @@
-use Rattle.sshkey_cert_values.proofs.WrittenOptions.{HasLen}
+use Rattle.sshkey_cert_values.proofs.WrittenFields.{HasLen}
 use Rattle.sshkey_cert_values.proofs.options_map.write.each_len.Given as goal
 
 abbrev pub invariant-loop-name : goal.invariant-loop-name

@@ -1,7 +1,7 @@
 use Rattle.std.proofs.lemmas.Map.Iter.{rest_more, rest_all}
 use Rattle.std.proofs.lemmas.Result.{err_from_is_err_and}
 use Rattle.std.specs.Map.Iter.{deref_pair}
-use Rattle.sshkey_cert_values.proofs.WrittenOptions.{decides_more, decides_refused, decides_end}
+use Rattle.sshkey_cert_values.proofs.WrittenFields.{decides_more, decides_refused, decides_end}
 use Rattle.sshkey_cert_values.proofs.options_map.write.encode_each.Goals as goal
 
 pub loop-name-preserved : goal.loop-name-preserved

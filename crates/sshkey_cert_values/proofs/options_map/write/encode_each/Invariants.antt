@@ -1,4 +1,4 @@
-use Rattle.sshkey_cert_values.proofs.WrittenOptions.{Decides}
+use Rattle.sshkey_cert_values.proofs.WrittenFields.{Decides}
 use Rattle.sshkey_cert_values.proofs.options_map.write.encode_each.Given as goal
 
 abbrev pub invariant-loop-name : goal.invariant-loop-name

@@ -1,7 +1,6 @@
 use Rattle.std.proofs.Common.{◌∙◌, sym}
 use Rattle.std.specs.Str.Iter.{lines_rest}
-use Rattle.sshkey_entries.proofs.TextLines.{fewer_lines, fewer_left}
-use Rattle.sshkey_entries.proofs.FilledTexts.{filled_taken, filled_skipped}
+use Rattle.sshkey_entries.proofs.TextLines.{fewer_lines, fewer_left, filled_taken, filled_skipped}
 use Rattle.sshkey_entries.proofs.non_blank_lines.NonBlankLinesIterator.next.Goals as goal
 
 pub returns-then-is_filled-clause-steps : goal.returns-then-is_filled-clause-steps

@@ -5,9 +5,9 @@ use Rattle.sshkey_matching.proofs.AskedHosts.{no_fault, one_asked}
 use Rattle.sshkey_matching.specs.AskedHosts.{IsAsked, IsHostFault}
 use Rattle.sshkey_matching.specs.declared.host.HostFault.TheVariants as fault
 use Rattle.sshkey_entries.specs.Fields.{filled_lines}
-use Rattle.sshkey_entries.specs.HostNames.{known_name, standard_port}
+use Rattle.sshkey_entries.specs.HostVerdicts.{known_name, standard_port}
 use Rattle.sshkey_known_hosts.specs.Hmac.{hmac_sha1}
-use Rattle.sshkey_known_hosts.specs.SameLines.{SaySame}
+use Rattle.sshkey_known_hosts.specs.HeldLines.{SaySame}
 use Rattle.sshkey_known_hosts.proofs.HeldLines.{same_more}
 use Rattle.host_keys.specs.Hosts.{lines_of}
 use Rattle.sshkey_entry_calls.proofs.host_request.HostRequest.texts_with.Goals as goal

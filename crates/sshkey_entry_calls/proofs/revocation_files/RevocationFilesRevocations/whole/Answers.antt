@@ -1,7 +1,7 @@
 use Rattle.sshkey_krl.proofs.Wholeness.{any_whole, read_whole}
 use Rattle.sshkey_revoked_keys.proofs.Wholeness.{file_whole}
 use Rattle.sshkey_revoked_keys.specs.RevokedKeys.{revokes, revokes_key}
-use Rattle.sshkey_entry_calls.specs.RevocationFiles.{reads_of}
+use Rattle.sshkey_entry_calls.specs.Revocations.{reads_of}
 use Rattle.sshkey_entry_calls.proofs.revocation_files.RevocationFilesRevocations.whole.Goals as goal
 
 pub returns : goal.returns

@@ -3,10 +3,9 @@ use Rattle.sshkey_base.proofs.Accepted.{spelled_whole, whole_spelled}
 use Rattle.sshkey_base.specs.Names.{algorithm_of}
 use Rattle.sshkey_keys.proofs.KeyReaders.{key_grammar}
 use Rattle.sshkey_keys.specs.Keys.{key_of}
-use Rattle.sshkey_keys_ref.specs.Dispatch.{signature_by}
-use Rattle.sshkey_keys_ref.proofs.Asking.{takes_memory, well_asked, within_asked}
-use Rattle.sshkey_keys_ref.proofs.Dispatching.{answered}
-use Rattle.sshkey_keys_ref.proofs.Spelled.{some_spelled}
+use Rattle.sshkey_keys_ref.specs.Signatures.{signature_by}
+use Rattle.sshkey_keys_ref.proofs.Signatures.{takes_memory, well_asked, within_asked, answered}
+use Rattle.sshkey_keys_ref.proofs.Acceptance.{some_spelled}
 use Rattle.sshkey_keys_ref.proofs.key_data_ref.KeyDataRef.ask.Goals as goal
 
 pub verify-requires : goal.verify-requires

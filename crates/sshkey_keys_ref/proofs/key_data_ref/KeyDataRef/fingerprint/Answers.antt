@@ -1,5 +1,5 @@
 use Rattle.sshkey_base.specs.Names.{hash_of}
-use Rattle.sshkey_keys_ref.proofs.DigestedKeys.{normal_digest, made_digest}
+use Rattle.sshkey_keys_ref.proofs.Keys.{normal_digest, made_digest}
 use Rattle.sshkey_keys_ref.proofs.key_data_ref.KeyDataRef.fingerprint.Goals as goal
 
 pub returns-in-Some : goal.returns-in-Some

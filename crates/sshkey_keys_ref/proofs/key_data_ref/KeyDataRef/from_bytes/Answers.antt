@@ -2,7 +2,7 @@ use Rattle.std.specs.Prelude.{Ok, Err}
 use Rattle.std.proofs.lemmas.Result.{err_from_is_err_and}
 use Rattle.sshkey_base.specs.Causes.{cause}
 use Rattle.sshkey_keys.proofs.KeyReaders.{key_grammar}
-use Rattle.sshkey_keys_ref.proofs.Accepting.{judged}
+use Rattle.sshkey_keys_ref.proofs.Acceptance.{judged}
 use Rattle.sshkey_keys_ref.proofs.key_data_ref.KeyDataRef.from_bytes.Goals as goal
 
 pub returns-in_err-check_key-clause-accepts : goal.returns-in_err-check_key-clause-accepts

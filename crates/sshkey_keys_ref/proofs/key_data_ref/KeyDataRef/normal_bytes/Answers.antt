@@ -1,5 +1,5 @@
 use Rattle.std.proofs.Common.{refl}
-use Rattle.sshkey_keys_ref.proofs.PlainHeads.{plainly_normal, not_normal}
+use Rattle.sshkey_keys_ref.proofs.Keys.{plainly_normal, not_normal}
 use Rattle.sshkey_keys_ref.proofs.key_data_ref.KeyDataRef.normal_bytes.Goals as goal
 
 pub returns-then-not-is_headed_plainly : goal.returns-then-not-is_headed_plainly

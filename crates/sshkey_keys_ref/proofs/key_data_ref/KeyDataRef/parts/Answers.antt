@@ -1,6 +1,6 @@
 use Rattle.sshkey_base.proofs.Accepted.{spelled_whole}
 use Rattle.sshkey_keys.proofs.KeyReaders.{key_grammar}
-use Rattle.sshkey_keys_ref.specs.KeyDataRef.{key_bytes}
+use Rattle.sshkey_keys_ref.specs.Keys.{key_bytes}
 use Rattle.sshkey_keys_ref.proofs.key_data_ref.KeyDataRef.parts.Goals as goal
 
 pub returns : goal.returns

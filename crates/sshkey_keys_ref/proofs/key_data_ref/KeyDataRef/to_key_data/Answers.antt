@@ -3,8 +3,8 @@ use Rattle.sshkey_model.specs.Reading.{whole}
 use Rattle.sshkey_keys.specs.Keys.{key_of}
 use Rattle.sshkey_model.specs.Keys.{key_data_at, SpellsKey}
 use Rattle.sshkey_keys_ref.proofs.WalkedBodies.{taken_again}
-use Rattle.sshkey_keys_ref.proofs.KeysOfOneSize.{never_refused}
-use Rattle.sshkey_keys_ref.proofs.Spelled.{spelled_of}
+use Rattle.sshkey_keys_ref.proofs.Keys.{never_refused}
+use Rattle.sshkey_keys_ref.proofs.Acceptance.{spelled_of}
 use Rattle.sshkey_keys_ref.proofs.key_data_ref.KeyDataRef.to_key_data.Goals as goal
 
 pub returns-clause-value : goal.returns-clause-value

@@ -1,5 +1,5 @@
 use Rattle.sshkey_keys.proofs.SignatureReaders.{signature_grammar}
-use Rattle.sshkey_keys_ref.proofs.Spelled.{some_spelled}
+use Rattle.sshkey_keys_ref.proofs.Acceptance.{some_spelled}
 use Rattle.sshkey_keys_ref.proofs.signature_ref.SignatureRef.as_bytes.Goals as goal
 
 pub returns-clause-spelled : goal.returns-clause-spelled

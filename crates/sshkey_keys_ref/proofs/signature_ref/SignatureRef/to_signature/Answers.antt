@@ -3,7 +3,7 @@ use Rattle.sshkey_model.specs.Reading.{whole}
 use Rattle.sshkey_keys.specs.Signatures.{signature_of}
 use Rattle.sshkey_model.specs.Signatures.{signature_at, SpellsSignature}
 use Rattle.sshkey_keys_ref.proofs.WalkedBodies.{taken_again}
-use Rattle.sshkey_keys_ref.proofs.Spelled.{spelled_of}
+use Rattle.sshkey_keys_ref.proofs.Acceptance.{spelled_of}
 use Rattle.sshkey_keys_ref.proofs.signature_ref.SignatureRef.to_signature.Goals as goal
 
 pub returns-clause-value : goal.returns-clause-value

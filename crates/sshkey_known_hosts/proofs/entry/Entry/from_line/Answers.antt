@@ -2,7 +2,7 @@ use Rattle.std.proofs.Common.{option_map}
 use Rattle.std.proofs.lemmas.Result.{err_from_is_err_and}
 use Rattle.sshkey_known_hosts.specs.HostEntries.{hosts_of, marker_of}
 use Rattle.sshkey_known_hosts.proofs.Hosts.{have_parts, refused_parts}
-use Rattle.sshkey_known_hosts.proofs.Marked.{uncut_hosts, bad_hosts, bad_host_key, known, line_needs, space_fault, hosts_fault, host_key_fault}
+use Rattle.sshkey_known_hosts.proofs.Entries.{uncut_hosts, bad_hosts, bad_host_key, known, line_needs, space_fault, hosts_fault, host_key_fault}
 use Rattle.sshkey_known_hosts.proofs.entry.Entry.from_line.Goals as goal
 
 pub returns-in_default-clause-reads : goal.returns-in_default-clause-reads

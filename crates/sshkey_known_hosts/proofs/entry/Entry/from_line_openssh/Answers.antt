@@ -2,8 +2,7 @@ use Rattle.std.proofs.Common.{lit<, sym, refl, ◌∙◌, option_map}
 use Rattle.std.proofs.lemmas.Result.{err_from_is_err_and}
 use Rattle.sshkey_known_hosts.specs.HostEntries.{hosts_of, marker_of}
 use Rattle.sshkey_known_hosts.proofs.Hosts.{have_parts, refused_parts}
-use Rattle.sshkey_known_hosts.proofs.HostLines.{hosts_fault, key_fault, marker_fault, zero_fault, comment_read, comment_fault, no_marker_read, text_fault, bad_hosts, bad_host_key, line_needs, line_read}
-use Rattle.sshkey_known_hosts.proofs.ContainedCharacters.{with_it, without_it}
+use Rattle.sshkey_known_hosts.proofs.HostLines.{hosts_fault, key_fault, marker_fault, zero_fault, comment_read, comment_fault, no_marker_read, text_fault, bad_hosts, bad_host_key, line_needs, line_read, with_it, without_it}
 use Rattle.sshkey_known_hosts.proofs.entry.Entry.from_line_openssh.Goals as goal
 
 pub returns-then-contains-clause-reads : goal.returns-then-contains-clause-reads

@@ -3,7 +3,7 @@ use Rattle.sshkey_model.specs.Lines.{key_line}
 use Rattle.sshkey_entries.specs.KnownHosts.{hosts_text}
 use Rattle.sshkey_public.specs.PublicKeys.{public_of, comment_of}
 use Rattle.sshkey_known_hosts.specs.HostEntries.{hosts_in, hosts_of, key_in, marker_in, marker_of}
-use Rattle.sshkey_known_hosts.proofs.OneLine.{written_so, so_written}
+use Rattle.sshkey_known_hosts.proofs.Entries.{written_so, so_written}
 use Rattle.sshkey_known_hosts.proofs.entry.Entry.is_one_line.Goals as goal
 
 pub returns-then-is_one_line : goal.returns-then-is_one_line

@@ -1,5 +1,5 @@
 use Rattle.std.proofs.Common.{◌≡◌, List, ℕ, sym, subst}
-use Rattle.sshkey_entries.specs.HostNames.{AreFor, AreForName}
+use Rattle.sshkey_entries.specs.HostVerdicts.{AreFor, AreForName}
 use Rattle.sshkey_known_hosts.specs.HostEntries.{hosts_of}
 use Rattle.sshkey_known_hosts.specs.declared.host_patterns.HostPatterns.{HostPatterns}
 use Rattle.sshkey_known_hosts.proofs.host_patterns.HostPatterns.are_for.Goals as goal

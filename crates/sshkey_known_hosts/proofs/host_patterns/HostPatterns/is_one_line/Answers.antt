@@ -1,10 +1,10 @@
 use Rattle.std.proofs.Common.{sym, subst, refl}
 use Rattle.std.specs.List.{All}
 use Rattle.sshkey_entries.specs.KnownHosts.{hosts_text}
-use Rattle.sshkey_public.specs.OneLine.{IsOneLine}
+use Rattle.sshkey_public.specs.WrittenLines.{IsOneLine}
 use Rattle.sshkey_known_hosts.specs.HostEntries.{hosts_of}
 use Rattle.sshkey_known_hosts.specs.declared.host_patterns.HostPatterns.{HostPatterns}
-use Rattle.sshkey_known_hosts.proofs.OneLine.{joined_so, so_joined, hashed_so}
+use Rattle.sshkey_known_hosts.proofs.Entries.{joined_so, so_joined, hashed_so}
 use Rattle.sshkey_known_hosts.proofs.host_patterns.HostPatterns.is_one_line.Goals as goal
 
 pub returns-in-Patterns : goal.returns-in-Patterns

@@ -1,5 +1,5 @@
 use Rattle.std.proofs.Common.{◌≡◌, ◌+◌, length}
-use Rattle.sshkey_known_hosts.specs.LinePlaces.{total_length}
+use Rattle.sshkey_known_hosts.specs.HeldLines.{total_length}
 use Rattle.sshkey_known_hosts.proofs.places.PlacedText.is_whole.Given as goal
 
 -- what is left of both

@@ -1,14 +1,11 @@
 use denote.Ref.{Bor}
 use Rattle.std.proofs.Common.{◌≡◌, ◌∙◌, ◌++◌, ◌∷◌, [], List, ℕ, ap, append-nil, append_assoc, arith, drop, length, refl, subst, sym, take}
 use Rattle.sshkey_entries.specs.Fields.{filled_lines}
-use Rattle.sshkey_entries.specs.HostNames.{known_name, standard_port}
-use Rattle.sshkey_known_hosts.specs.HeldLines.{lines_of}
+use Rattle.sshkey_entries.specs.HostVerdicts.{known_name, standard_port}
+use Rattle.sshkey_known_hosts.specs.HeldLines.{lines_of, ArePlacesOf, IsPlaceOf, total_length, SaySame}
 use Rattle.sshkey_known_hosts.specs.HeldNames.{IsAmong, name_hash}
-use Rattle.sshkey_known_hosts.specs.LinePlaces.{ArePlacesOf, IsPlaceOf, total_length}
-use Rattle.sshkey_known_hosts.specs.SameLines.{SaySame}
 use Rattle.sshkey_known_hosts.specs.declared.places.LinePlace.{LinePlace}
-use Rattle.sshkey_known_hosts.proofs.HeldLines.{no_lines_same}
-use Rattle.sshkey_known_hosts.proofs.LinePlaces.{asked, nothing, passed_over}
+use Rattle.sshkey_known_hosts.proofs.HeldLines.{no_lines_same, asked, nothing, passed_over}
 use Rattle.sshkey_known_hosts.proofs.places.PlacedText.texts_for.Goals as goal
 
 pub places-init : goal.places-init

@@ -1,9 +1,7 @@
 use Rattle.std.proofs.Common.{◌≡◌, ◌++◌, ℕ, List, length}
 use Rattle.sshkey_entries.specs.Fields.{filled_lines}
-use Rattle.sshkey_entries.specs.HostNames.{known_name, standard_port}
-use Rattle.sshkey_known_hosts.specs.HeldLines.{lines_of}
-use Rattle.sshkey_known_hosts.specs.LinePlaces.{ArePlacesOf, total_length}
-use Rattle.sshkey_known_hosts.specs.SameLines.{SaySame}
+use Rattle.sshkey_entries.specs.HostVerdicts.{known_name, standard_port}
+use Rattle.sshkey_known_hosts.specs.HeldLines.{lines_of, ArePlacesOf, total_length, SaySame}
 use Rattle.sshkey_known_hosts.proofs.places.PlacedText.texts_for.Given as goal
 
 -- The places that are left are as long as what is left of the text; and where they are its places,

@@ -3,7 +3,7 @@ use Rattle.sshkey_keys.specs.Keys.{key_of}
 use Rattle.sshkey_model.specs.Keys.{normal_key}
 use Rattle.sshkey_model.specs.Parts.{flat}
 use Rattle.sshkey_krl.specs.Revocation.{Keys}
-use Rattle.sshkey_krl.specs.Written.{key_section}
+use Rattle.sshkey_krl.specs.Writing.{key_section}
 use Rattle.sshkey_krl.proofs.Grown.{adds, key_spelled, still_list}
 use Rattle.sshkey_krl.proofs.krl.Krl.revoke_key.Goals as goal
 

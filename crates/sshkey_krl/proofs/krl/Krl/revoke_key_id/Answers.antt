@@ -1,8 +1,7 @@
 use Rattle.std.proofs.Common.{[], ◌∷◌, sym, ◌∙◌}
 use Rattle.sshkey_krl.specs.Revocation.{Certificates, KeyIds}
-use Rattle.sshkey_krl.specs.Written.{certificates_section, key_id_part}
+use Rattle.sshkey_krl.specs.Writing.{certificates_section, key_id_part, authority_of}
 use Rattle.sshkey_krl.proofs.Grown.{key_id_spelled}
-use Rattle.sshkey_krl.specs.Owned.{authority_of}
 use Rattle.sshkey_krl.proofs.Grown.{adds, certificates_spelled, still_list}
 use Rattle.sshkey_krl.proofs.krl.Krl.revoke_key_id.Goals as goal
 

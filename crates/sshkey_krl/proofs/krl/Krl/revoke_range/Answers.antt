@@ -1,11 +1,9 @@
 use Rattle.std.proofs.Common.{[], ◌∷◌, sym, ◌∙◌}
 use Rattle.sshkey_base.specs.Causes.{cause}
 use Rattle.sshkey_terms.proofs.SliceFronts.{answers_ok}
-use Rattle.sshkey_krl.specs.Revocation.{Certificates, Numbers}
-use Rattle.sshkey_krl.specs.Serials.{Range, range_from}
-use Rattle.sshkey_krl.specs.Written.{certificates_section, range_part}
+use Rattle.sshkey_krl.specs.Revocation.{Certificates, Numbers, Range, range_from}
+use Rattle.sshkey_krl.specs.Writing.{certificates_section, range_part, authority_of}
 use Rattle.sshkey_krl.proofs.Grown.{range_spelled}
-use Rattle.sshkey_krl.specs.Owned.{authority_of}
 use Rattle.sshkey_krl.proofs.Grown.{adds, certificates_spelled, still_list}
 use Rattle.sshkey_krl.proofs.krl.Krl.revoke_range.Goals as goal
 

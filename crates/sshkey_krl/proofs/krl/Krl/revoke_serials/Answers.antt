@@ -1,9 +1,7 @@
 use Rattle.std.proofs.Common.{[], ◌∷◌, sym, ◌∙◌}
-use Rattle.sshkey_krl.specs.Revocation.{Certificates, Numbers}
-use Rattle.sshkey_krl.specs.Serials.{Listed}
-use Rattle.sshkey_krl.specs.Written.{certificates_section, serials_part}
+use Rattle.sshkey_krl.specs.Revocation.{Certificates, Numbers, Listed}
+use Rattle.sshkey_krl.specs.Writing.{certificates_section, serials_part, authority_of}
 use Rattle.sshkey_krl.proofs.Grown.{serials_spelled}
-use Rattle.sshkey_krl.specs.Owned.{authority_of}
 use Rattle.sshkey_krl.proofs.Grown.{adds, certificates_spelled, still_list}
 use Rattle.sshkey_krl.proofs.krl.Krl.revoke_serials.Goals as goal
 

@@ -1,6 +1,6 @@
 use Rattle.std.proofs.Common.{[], ◌∷◌}
 use Rattle.sshkey_krl.specs.Revocation.{Sha1s}
-use Rattle.sshkey_krl.specs.Written.{sha1_section}
+use Rattle.sshkey_krl.specs.Writing.{sha1_section}
 use Rattle.sshkey_krl.proofs.Grown.{adds, sha1_spelled, still_list}
 use Rattle.sshkey_krl.proofs.krl.Krl.revoke_sha1.Goals as goal
 

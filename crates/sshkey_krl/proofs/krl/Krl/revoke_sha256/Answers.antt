@@ -1,6 +1,6 @@
 use Rattle.std.proofs.Common.{[], ◌∷◌}
 use Rattle.sshkey_krl.specs.Revocation.{Sha256s}
-use Rattle.sshkey_krl.specs.Written.{sha256_section}
+use Rattle.sshkey_krl.specs.Writing.{sha256_section}
 use Rattle.sshkey_krl.proofs.Grown.{adds, sha256_spelled, still_list}
 use Rattle.sshkey_krl.proofs.krl.Krl.revoke_sha256.Goals as goal
 

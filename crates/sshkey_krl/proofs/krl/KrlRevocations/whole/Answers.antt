@@ -1,4 +1,4 @@
-use Rattle.sshkey_krl.specs.Owned.{krl_of}
+use Rattle.sshkey_krl.specs.Writing.{krl_of}
 use Rattle.sshkey_krl.proofs.Wholeness.{list_whole}
 use Rattle.sshkey_krl.proofs.krl.KrlRevocations.whole.Goals as goal
 

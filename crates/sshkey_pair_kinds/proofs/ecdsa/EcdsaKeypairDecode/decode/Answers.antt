@@ -6,7 +6,7 @@ use Rattle.sshkey_terms.proofs.Chosen.{chosen_handed, chosen_handed_stops, chose
 use Rattle.sshkey_terms.proofs.Needless.{needless_stops}
 use Rattle.sshkey_kinds.proofs.Lawful.{any_ecdsa_lawful}
 use Rattle.sshkey_model.specs.KeyPairs.{any_ecdsa_pair_format, pair_of_key}
-use Rattle.sshkey_pair_kinds.proofs.PairReaders.{ecdsa_pair_chosen}
+use Rattle.sshkey_pair_kinds.proofs.Lawful.{ecdsa_pair_chosen}
 use Rattle.sshkey_pair_kinds.proofs.ecdsa.EcdsaKeypairDecode.decode.Goals as goal
 
 pub returns-in_err-public-clause-gives : goal.returns-in_err-public-clause-gives

@@ -3,7 +3,7 @@ use Rattle.sshkey_terms.proofs.Chosen.{chosen_stops}
 use Rattle.sshkey_model.specs.Names.{name_format}
 use Rattle.sshkey_keys.proofs.Lawful.{name_lawful}
 use Rattle.sshkey_model.specs.KeyPairs.{some_pair_format, keypair_format}
-use Rattle.sshkey_pairs.proofs.KeypairReaders.{keypair_chosen}
+use Rattle.sshkey_pairs.proofs.Keypairs.{keypair_chosen}
 use Rattle.sshkey_pairs.proofs.keypair_data.KeypairDataDecode.decode.Goals as goal
 
 pub returns-clause-past : goal.returns-clause-past

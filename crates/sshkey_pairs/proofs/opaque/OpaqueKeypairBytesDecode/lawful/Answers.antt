@@ -1,5 +1,5 @@
 use Rattle.std.proofs.Common.{[]}
-use Rattle.sshkey_pairs.proofs.Lawful.{opaque_pair_lawful}
+use Rattle.sshkey_pairs.proofs.Keypairs.{opaque_pair_lawful}
 use Rattle.sshkey_pairs.proofs.opaque.OpaqueKeypairBytesDecode.lawful.Goals as goal
 
 pub returns : goal.returns

@@ -3,7 +3,7 @@ use Rattle.sshkey_base.specs.Causes.{cause}
 use Rattle.sshkey_keys.specs.Keys.{key_of}
 use Rattle.sshkey_ciphers.specs.Ciphers.{cipher_of, kdf_of}
 use Rattle.sshkey_model.specs.KeyDerivation.{NoKdf}
-use Rattle.sshkey_private.proofs.Stopping.{plain_stops, underived_stopped}
+use Rattle.sshkey_private.proofs.KeyReaders.{plain_stops, underived_stopped}
 use Rattle.sshkey_private.proofs.private_key.read.content_from.Goals as goal
 
 pub returns-clause-past : goal.returns-clause-past

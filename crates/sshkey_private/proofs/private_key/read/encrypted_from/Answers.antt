@@ -1,7 +1,7 @@
 use Rattle.std.proofs.lemmas.Result.{err_from_is_err_and}
 use Rattle.sshkey_keys.specs.Keys.{key_of}
 use Rattle.sshkey_ciphers.specs.Ciphers.{cipher_of, kdf_of}
-use Rattle.sshkey_private.proofs.Stopping.{encrypted_stopped}
+use Rattle.sshkey_private.proofs.KeyReaders.{encrypted_stopped}
 use Rattle.sshkey_private.proofs.private_key.read.encrypted_from.Goals as goal
 
 pub returns-in_err-ciphertext-clause-past : goal.returns-in_err-ciphertext-clause-past

@@ -2,10 +2,10 @@ use Rattle.std.proofs.Common.{inl, refl, arith}
 use Rattle.std.proofs.lemmas.Result.{err_from_is_err_and}
 use Rattle.sshkey_base.proofs.Steps.{refused_first}
 use Rattle.sshkey_ciphers.specs.Ciphers.{cipher_of}
-use Rattle.sshkey_ciphers.specs.Ciphertexts.{sealed_format}
+use Rattle.sshkey_ciphers.specs.Formats.{sealed_format}
 use Rattle.sshkey_ciphers.proofs.Lawful.{sealed_lawful}
 use Rattle.sshkey_private.specs.PrivateKeyFormats.{last_encrypted_at}
-use Rattle.sshkey_private.proofs.KeyValues.{after_refused, none_after}
+use Rattle.sshkey_private.proofs.KeyReaders.{after_refused, none_after}
 use Rattle.sshkey_model.specs.Overruns.{OverrunsString}
 use Rattle.sshkey_base.proofs.Stopping.{read_past}
 use Rattle.sshkey_private.proofs.private_key.read.last_sealed_from.Goals as goal

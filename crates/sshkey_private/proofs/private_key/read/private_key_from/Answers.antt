@@ -3,11 +3,9 @@ use Rattle.std.proofs.lemmas.Result.{err_from_is_err_and}
 use Rattle.sshkey_base.specs.Causes.{cause}
 use Rattle.sshkey_terms.proofs.Chosen.{chosen_stopped, chosen_stops}
 use Rattle.sshkey_private.specs.declared.private_key.PrivateKey.{PrivateKey}
-use Rattle.sshkey_private.specs.Openings.{opening_of, opening_parts, opening_at}
+use Rattle.sshkey_private.specs.PrivateKeyFormats.{opening_of, opening_parts, opening_at, NeedsContent, OverrunsContent, last_content_at, steps_at, delimited_by}
 use Rattle.sshkey_private.proofs.Lawful.{opening_lawful}
-use Rattle.sshkey_private.specs.PrivateKeyFormats.{NeedsContent, OverrunsContent, last_content_at, steps_at}
-use Rattle.sshkey_private.specs.PrivateKeyGrammars.{delimited_by}
-use Rattle.sshkey_private.proofs.Stopping.{delimited_chosen}
+use Rattle.sshkey_private.proofs.KeyReaders.{delimited_chosen}
 use Rattle.sshkey_private.proofs.private_key.read.private_key_from.Goals as goal
 
 pub returns-in_err-opening-clause-past : goal.returns-in_err-opening-clause-past

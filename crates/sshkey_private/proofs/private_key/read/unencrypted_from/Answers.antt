@@ -3,11 +3,11 @@ use Rattle.std.proofs.lemmas.Result.{err_from_is_err_and}
 use Rattle.sshkey_keys.specs.Keys.{key_of}
 use Rattle.sshkey_terms.proofs.Mapped.{mapped_reads, mapped_refused}
 use Rattle.sshkey_terms.proofs.Stopping.{mapped_stopped}
-use Rattle.sshkey_private.specs.Inner.{inner_of, part_format}
+use Rattle.sshkey_private.specs.PrivateParts.{inner_of, part_format}
 use Rattle.sshkey_private.specs.PrivateKeyFormats.{key_of_part, unencrypted_below}
 use Rattle.sshkey_private.proofs.Lawful.{unencrypted_read}
 use Rattle.sshkey_private.specs.PrivateKeys.{private_of}
-use Rattle.sshkey_private.proofs.ReadHalves.{read_half}
+use Rattle.sshkey_private.proofs.KeyReaders.{read_half}
 use Rattle.sshkey_private.proofs.private_key.read.unencrypted_from.Goals as goal
 
 pub returns-in_err-inner-clause-gives : goal.returns-in_err-inner-clause-gives

@@ -5,8 +5,8 @@ use Rattle.sshkey_base.specs.Sink.{Encodes}
 use Rattle.sshkey_base.proofs.PlainParts.{encodes_first, encodes_later}
 use Rattle.sshkey_base.proofs.Writing.{plain_bytes}
 use Rattle.sshkey_public.specs.PublicKeys.{comment_of}
-use Rattle.sshkey_ciphers.specs.Ciphertexts.{tag_bytes}
-use Rattle.sshkey_private.proofs.WrittenKeys.{part_content, sealed_content}
+use Rattle.sshkey_ciphers.specs.Formats.{tag_bytes}
+use Rattle.sshkey_private.proofs.KeyForms.{part_content, sealed_content}
 use Rattle.sshkey_private.proofs.private_key.write.write_content.Goals as goal
 
 pub returns-in_err-encode_string-in-Some : goal.returns-in_err-encode_string-in-Some

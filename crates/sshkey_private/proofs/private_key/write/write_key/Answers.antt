@@ -5,7 +5,7 @@ use Rattle.sshkey_model.specs.KeyDerivation as model
 use Rattle.sshkey_model.specs.Parts.{bytes, ◌&◌}
 use Rattle.sshkey_model.specs.PrivateKeys.{private_key_magic}
 use Rattle.sshkey_ciphers.specs.Ciphers.{cipher_of, kdf_of}
-use Rattle.sshkey_private.specs.Written.{halves_parts}
+use Rattle.sshkey_private.specs.PrivateKeys.{halves_parts}
 use Rattle.sshkey_private.proofs.private_key.write.write_key.Goals as goal
 
 pub returns-in_err-write : goal.returns-in_err-write

@@ -1,6 +1,6 @@
 use Rattle.sshkey_base.specs.Causes.{cause}
 use Rattle.sshkey_userauth.specs.Values.{request_of}
-use Rattle.sshkey_userauth.proofs.Accepted.{accepts_all}
+use Rattle.sshkey_userauth.proofs.Requests.{accepts_all}
 use Rattle.sshkey_userauth.proofs.Lawful.{userauth_lawful}
 use Rattle.sshkey_userauth.proofs.request.UserauthRequest.from_bytes.Goals as goal
 

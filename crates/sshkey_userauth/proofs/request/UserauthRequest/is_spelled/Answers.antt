@@ -1,6 +1,6 @@
 use Rattle.sshkey_userauth.specs.RequestFormats.{SpellsUserauthRequest}
 use Rattle.sshkey_userauth.specs.Values.{request_of}
-use Rattle.sshkey_userauth.proofs.Accepted.{spelled_none, spelled_same}
+use Rattle.sshkey_userauth.proofs.Requests.{spelled_none, spelled_same}
 use Rattle.sshkey_userauth.proofs.RequestTrees.{userauth_grammar}
 use Rattle.sshkey_userauth.proofs.request.UserauthRequest.is_spelled.Goals as goal
 

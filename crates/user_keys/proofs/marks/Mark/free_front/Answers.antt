@@ -1,4 +1,4 @@
-use Rattle.user_keys.proofs.Unmarked.{free_all, free_before}
+use Rattle.user_keys.proofs.Spellings.{free_all, free_before}
 use Rattle.user_keys.proofs.marks.Mark.free_front.Goals as goal
 
 pub returns-in-Some-clause-free : goal.returns-in-Some-clause-free

@@ -1,5 +1,5 @@
 use Rattle.std.proofs.Common.{arith}
-use Rattle.user_keys.proofs.Searches.{start_none, start_some}
+use Rattle.user_keys.proofs.Spellings.{start_none, start_some}
 use Rattle.user_keys.proofs.marks.Marks.next_place.Goals as goal
 
 pub returns-in-Some : goal.returns-in-Some

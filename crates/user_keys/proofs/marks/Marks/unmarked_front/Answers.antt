@@ -1,4 +1,4 @@
-use Rattle.user_keys.proofs.Unmarked.{all_free}
+use Rattle.user_keys.proofs.Spellings.{all_free}
 use Rattle.user_keys.proofs.marks.Marks.unmarked_front.Goals as goal
 
 pub returns-clause-unmarked : goal.returns-clause-unmarked

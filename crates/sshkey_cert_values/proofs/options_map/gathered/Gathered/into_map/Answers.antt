@@ -3,7 +3,7 @@ use Rattle.std.specs.BTreeMap.{IsFromIterResult}
 use Rattle.std.specs.String.{string_cmp}
 use Rattle.std.proofs.lemmas.Iterator.Adapters.{YieldsList-from_vec, fact_from_collect}
 use Rattle.std.proofs.lemmas.Result.{IfOk-at_ok}
-use Rattle.sshkey_cert_values.proofs.RisingNames.{built}
+use Rattle.sshkey_cert_values.proofs.OptionNames.{built}
 use Rattle.sshkey_cert_values.proofs.options_map.gathered.Gathered.into_map.Goals as goal
 
 pub returns-in_ok-options-in-Many-clause-value : goal.returns-in_ok-options-in-Many-clause-value

@@ -1,8 +1,8 @@
 use Rattle.std.proofs.Common.{◌≡◌, true, ◌∙◌}
 use Rattle.std.specs.Prelude.{string_bytes}
 use Rattle.sshkey_model.specs.Options.{may_follow}
-use Rattle.sshkey_cert_values.specs.OptionMaps.{name_at_end}
-use Rattle.sshkey_cert_values.proofs.RisingNames.{rise_more, insert_end}
+use Rattle.sshkey_cert_values.specs.CertificateFields.{name_at_end}
+use Rattle.sshkey_cert_values.proofs.OptionNames.{rise_more, insert_end}
 use Rattle.sshkey_cert_values.proofs.options_map.gathered.Gathered.push.Goals as goal
 
 pub returns-in_ok-insert-in-Few-clause-ok : goal.returns-in_ok-insert-in-Few-clause-ok

@@ -1,6 +1,6 @@
 use Rattle.std.proofs.Common.{◌≡◌, [], rules}
 use Rattle.std.proofs.lemmas.List.{nil_from_length}
-use Rattle.sshkey_cert_values.proofs.WrittenOptions.{nothing_added}
+use Rattle.sshkey_cert_values.proofs.WrittenFields.{nothing_added}
 use Rattle.sshkey_cert_values.proofs.options_map.write.OptionValueEncode.encode.Goals as goal
 
 pub returns-then-is_empty : goal.returns-then-is_empty

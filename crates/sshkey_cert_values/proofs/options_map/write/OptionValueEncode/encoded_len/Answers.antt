@@ -1,6 +1,6 @@
 use Rattle.std.proofs.Common.{◌≡◌, [], rules}
 use Rattle.std.proofs.lemmas.List.{nil_from_length}
-use Rattle.sshkey_cert_values.proofs.WrittenOptions.{nothing_has}
+use Rattle.sshkey_cert_values.proofs.WrittenFields.{nothing_has}
 use Rattle.sshkey_cert_values.proofs.options_map.write.OptionValueEncode.encoded_len.Goals as goal
 
 pub returns-then-is_empty-clause-measures : goal.returns-then-is_empty-clause-measures

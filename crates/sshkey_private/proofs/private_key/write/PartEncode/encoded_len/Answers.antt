@@ -4,7 +4,7 @@ use Rattle.sshkey_model.specs.Parts.{BoxesFit, number}
 use Rattle.sshkey_model.specs.Texts.{string}
 use Rattle.sshkey_base.proofs.Measured.{Has, both_have, refused_measure}
 use Rattle.sshkey_pairs.specs.Keypairs.{keypair_parts}
-use Rattle.sshkey_private.specs.Written.{part_of, part_parts}
+use Rattle.sshkey_private.specs.PrivateKeys.{part_of, part_parts}
 use Rattle.sshkey_private.proofs.private_key.write.PartEncode.encoded_len.Goals as goal
 
 pub returns-in_err-encoded_len-clause-measures : goal.returns-in_err-encoded_len-clause-measures

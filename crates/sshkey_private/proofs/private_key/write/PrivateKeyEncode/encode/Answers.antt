@@ -3,7 +3,7 @@ use Rattle.sshkey_base.specs.Sink.{Encodes}
 use Rattle.sshkey_model.specs.Parts.{Parts}
 use Rattle.sshkey_public.specs.PublicKeys.{comment_of}
 use Rattle.sshkey_private.specs.PrivateKeys.{key_fields}
-use Rattle.sshkey_private.proofs.WrittenKeys.{written_is}
+use Rattle.sshkey_private.proofs.KeyForms.{written_is}
 use Rattle.sshkey_private.proofs.private_key.write.PrivateKeyEncode.encode.Goals as goal
 
 pub returns : goal.returns

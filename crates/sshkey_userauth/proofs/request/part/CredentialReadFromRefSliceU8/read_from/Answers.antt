@@ -3,7 +3,7 @@ use Rattle.sshkey_base.specs.Causes.{cause}
 use Rattle.sshkey_base.proofs.Places.{later_then}
 use Rattle.sshkey_userauth.specs.RequestFormats.{credential_format, method_format}
 use Rattle.sshkey_userauth.specs.Values.{credential_of, method_of}
-use Rattle.sshkey_userauth.proofs.Calling.{call_gives, call_refused}
+use Rattle.sshkey_userauth.proofs.Requests.{call_gives, call_refused}
 use Rattle.sshkey_userauth.proofs.request.part.CredentialReadFromRefSliceU8.read_from.Goals as goal
 
 pub returns-in_err-method-clause-gives : goal.returns-in_err-method-clause-gives

@@ -3,7 +3,7 @@ use Rattle.sshkey_base.proofs.Measured.{refused_measure}
 use Rattle.sshkey_model.specs.Parts.{BoxesFit}
 use Rattle.sshkey_userauth.specs.Requests.{userauth_request}
 use Rattle.sshkey_userauth.specs.Values.{request_of}
-use Rattle.sshkey_userauth.proofs.Measured.{request_has}
+use Rattle.sshkey_userauth.proofs.Requests.{request_has}
 use Rattle.sshkey_userauth.proofs.request.wire.UserauthRequestEncode.encoded_len.Goals as goal
 
 pub returns-in_err-string_len-2-clause-measures : goal.returns-in_err-string_len-2-clause-measures
