@@ -9,15 +9,23 @@ use Rattle.sshkey_model.specs.Options.{Nesting, nesting_of, spelled_text, spelle
 use Rattle.sshkey_base.specs.declared.encoding.Error.{Error}
 use Rattle.sshkey_base.specs.declared.encoding.Error.TheVariants as encoding
 use Rattle.sshkey_base.specs.Answers.{AnswersAlways}
-use Rattle.sshkey_base.specs.Causes.{encoding_cause}
+use Rattle.sshkey_base.specs.Causes.{encoding_cause, cause}
 use Rattle.sshkey_base.proofs.Boxes.{some_after}
 use Rattle.sshkey_keys_ref.specs.Taking.{TakesValue}
-use Rattle.sshkey_cert_ref.specs.Views.{nesting, value_pair_of}
+use Rattle.sshkey_cert_ref.specs.Views.{nesting, value_pair_of, pair_of}
 use Rattle.sshkey_terms.proofs.SliceFronts.{answers_ok, answers_err}
 use Rattle.sshkey_model.specs.Parts.{flat}
 use Rattle.sshkey_model.specs.Terms.{◌then◌, boxed}
 use Rattle.sshkey_model.proofs.CombinedReaders.{bind_ok, ok_is, met}
 use Rattle.sshkey_model.proofs.OptionReaders.{option_reads}
+use Rattle.sshkey_base.specs.declared.error.Error as wide-error
+use Rattle.sshkey_base.specs.Reading.{Refuses}
+use Rattle.sshkey_base.specs.Source.{all_of}
+use Rattle.sshkey_base.proofs.ReadLists.{Collects, collects_more, leaves_less}
+use Rattle.sshkey_cert_ref.specs.declared.certificate_options_ref.item.SpelledOption.{SpelledOption}
+use Rattle.sshkey_cert_ref.specs.Lists.{options_in, are_plain, plainness_from}
+use Rattle.sshkey_terms.specs.Slices.{is_taken}
+use Rattle.sshkey_cert_ref.proofs.TextSteps.{first_of, empty_list, all_refused, all_taken}
 
 abbrev value_from : Whole (List ℕ × Nesting)
 value_from = whole spelled_value_format.read
@@ -61,19 +69,6 @@ value_taken b t is_empty some h says =
     rw (value_of_some b some, answers_ok (λ (t : Bor (List ℕ)). t.now) encoding_cause (whole text_at b) t h, says, nesting_is t.now) refl
 
 -- A list of options is walked again, option by option.
-
-use Rattle.sshkey_base.specs.declared.error.Error as wide-error
-use Rattle.sshkey_base.specs.Answers.{AnswersAlways}
-use Rattle.sshkey_base.specs.Causes.{cause}
-use Rattle.sshkey_base.specs.Reading.{Refuses}
-use Rattle.sshkey_base.specs.Source.{all_of}
-use Rattle.sshkey_base.proofs.ReadLists.{Collects, collects_more, leaves_less}
-use Rattle.sshkey_cert_ref.specs.declared.certificate_options_ref.item.SpelledOption.{SpelledOption}
-use Rattle.sshkey_cert_ref.specs.Lists.{options_in, are_plain, plainness_from}
-use Rattle.sshkey_cert_ref.specs.Views.{pair_of, nesting}
-use Rattle.sshkey_keys_ref.specs.Taking.{TakesValue}
-use Rattle.sshkey_terms.specs.Slices.{is_taken}
-use Rattle.sshkey_cert_ref.proofs.TextSteps.{first_of, empty_list, all_refused, all_taken}
 
 abbrev Pair : Type 0
 Pair = CertificateOption × Nesting
