@@ -1,5 +1,5 @@
 mod HostKeys
 mod Certificates
 mod ExampleLemmas
-mod SeveralTexts
+pub mod SeveralTexts
 pub mod SameAnswers
