@@ -86,7 +86,6 @@ pub odd_word : (word : List ℕ) → (length word % 4 ≢ 0) → (blob : List �
 odd_word word other blob s = other (omega (arith, ap length s.2, length_word blob))
 
 module _ (word : List ℕ) (s : Source) (is : IsSourceOf word s) where
-
   empty : (l : List ℕ) → length l ≡ 0 → l ≡ []
   empty [] e = refl
   empty (c ∷ l) e = absurd (omega (arith, e))
