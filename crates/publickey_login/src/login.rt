@@ -68,7 +68,8 @@ pub fn log_in<R: Revocations, V: RawVerifier>(
 ) -> Result<PublickeyGrant, PublickeyRefusal>
     ensures exactly { GrantsExactly (IsLogin (padding (V.accepts verifier.now))
         (login_of offer.now trusted.now (place_seen signed.now place.now)
-        (R.revokes revocations.now) (R.revokes_key revocations.now)) (signed_of signed.now)) result }
+        (R.revokes revocations.now) (R.revokes_key revocations.now))
+        (signed_of signed.now)) result }
     ensures refused { IfErr result (λ r. r ≢ Memory → IsWhyNoLogin
         (padding (V.accepts verifier.now))
         (login_of offer.now trusted.now (place_seen signed.now place.now)

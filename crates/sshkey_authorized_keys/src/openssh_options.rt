@@ -145,7 +145,8 @@ fn with_option<T: AddOptions>(
     option: &OpenSshOption,
 ) -> std::result::Result<Reading<T>, AllocError>
     ensures { let o = key_option_of option.now in
-        IfOk result (Tells T.means (T.Adds o.name o.value (T.means said)) (T.MayBe o.name o.value)) }
+        IfOk result (Tells T.means (T.Adds o.name o.value (T.means said))
+        (T.MayBe o.name o.value)) }
 {
     let Ok(value) = option.value(alloc) else {
         return Err(AllocError);

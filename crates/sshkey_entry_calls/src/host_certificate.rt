@@ -52,8 +52,8 @@ pub fn held_host_certificate_status(
     requires texts { are_texts login.now ≡ true }
     requires whole { total_length held.now.places.now ≡ length held.now.text.now }
     ensures verdict { ArePlacesOf held.now.places.now held.now.text.now
-        → JudgesCertificate login.now (held_lines login.now held.now.text.now) (λ _. said.now.is_yes)
-        certificate.now known_by.new result }
+        → JudgesCertificate login.now (held_lines login.now held.now.text.now)
+        (λ _. said.now.is_yes) certificate.now known_by.new result }
     ensures unknown { result ≢ 0 → known_by.new ≡ 0 }
 {
     let Ok(texts) = login.texts_with(alloc, held) else {

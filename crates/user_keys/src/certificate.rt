@@ -66,8 +66,8 @@ pub fn log_in_by_certificate<R: Revocations, V: RawVerifier>(
     ensures as_strict { IfOk result (IsAsStrictWith (login_with login.now certificate.now
         (padding (V.accepts verifier.now)) (R.revokes revocations.now))) }
     ensures refused { IfErr result (λ r. r ≢ refusal.Memory
-        → IsWhyNoCertificate (login_with login.now certificate.now (padding (V.accepts verifier.now))
-        (R.revokes revocations.now)) r) }
+        → IsWhyNoCertificate (login_with login.now certificate.now
+        (padding (V.accepts verifier.now)) (R.revokes revocations.now)) r) }
     ensures asks { IfErr result (λ r. r ≡ refusal.Memory → NeedsMemory (login_with login.now
         certificate.now (padding (V.accepts verifier.now)) (R.revokes revocations.now))) }
 {
