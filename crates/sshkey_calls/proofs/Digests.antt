@@ -4,7 +4,7 @@ use Rattle.sshkey_base.specs.Acceptance.{SpellsSome}
 use Rattle.sshkey_fingerprints.specs.Fingerprints.{digest_of}
 use Rattle.sshkey_fingerprints.specs.declared.fingerprint.Fingerprint.{Fingerprint}
 use Rattle.sshkey_keys.specs.Fingerprints.{IsFingerprint}
-use Rattle.sshkey_keys_ref.specs.Keys.{IsRenamed}
+use Rattle.sshkey_keys_ref.specs.KeyBytes.{IsRenamed}
 use Rattle.sshkey_model.specs.Keys.{Key, SpellsKey}
 use Rattle.sshkey_model.specs.Names.{Hash}
 use Rattle.sshkey_calls.specs.Fingerprints.{FindsFingerprint, GivesKeyDigest}

@@ -2,7 +2,7 @@
 use Rattle.std.proofs.Common.{◌≡◌, ◌≢◌, ◌<◌, ℕ, List, Bool, refl, arith, subst}
 use Rattle.sshkey_base.specs.Acceptance.{SpellsSome}
 use Rattle.sshkey_base.specs.Causes.{Cause, Faulty, NoMemory, Other}
-use Rattle.sshkey_keys_ref.specs.Keys.{IsRenamed}
+use Rattle.sshkey_keys_ref.specs.KeyBytes.{IsRenamed}
 use Rattle.sshkey_krl.specs.Revocation.{Krl, certificate_identity, revokes, revokes_certificate}
 use Rattle.sshkey_model.specs.Certificates.{Certificate}
 use Rattle.sshkey_model.specs.Keys.{normal_key, SpellsKey}

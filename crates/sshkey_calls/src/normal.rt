@@ -3,7 +3,8 @@
 ghost use Rattle.std.specs.Prelude.{◌≡◌};
 ghost use Rattle.sshkey_base.specs.Acceptance.{SpellsSome};
 ghost use Rattle.sshkey_cert_ref.specs.CertificateRef.{certificate_of};
-ghost use Rattle.sshkey_keys_ref.specs.Keys.{key_bytes, IsRenamed};
+ghost use Rattle.sshkey_keys_ref.specs.KeyBytes.{IsRenamed};
+ghost use Rattle.sshkey_keys_ref.specs.Keys.{key_bytes};
 ghost use Rattle.sshkey_model.specs.Certificates.{normal_certificate};
 ghost use Rattle.sshkey_model.specs.Keys.{Key, normal_key, SpellsKey};
 ghost use Rattle.sshkey_model.specs.Parts.{flat};

@@ -21,7 +21,7 @@ use Rattle.sshkey_keys_ref.proofs.Keys.{is_of_one_size, sized}
 use Rattle.sshkey_base.specs.declared.error.Error.{Error}
 use Rattle.sshkey_base.specs.declared.error.Error.TheVariants.{Memory}
 use Rattle.sshkey_cert.specs.Validity.{ReportsRefusal, refusal_error}
-use Rattle.sshkey_keys_ref.specs.Keys.{IsRenamed}
+use Rattle.sshkey_keys_ref.specs.KeyBytes.{IsRenamed}
 use Rattle.sshkey_model.specs.Certificates.{Certificate, CertificateChoices, SignedFields, plain_choices}
 use Rattle.sshkey_model.specs.Parts.{flat}
 use Rattle.sshkey_cert_ref.proofs.Certificates.{IsSpelledBy, plain_signer}

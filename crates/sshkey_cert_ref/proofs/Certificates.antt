@@ -13,7 +13,7 @@ use Rattle.sshkey_base.specs.Answers.{AnswersAlways, Judges}
 use Rattle.sshkey_base.specs.Causes.{Cause}
 use Rattle.sshkey_base.specs.Reading.{Refuses, NoSpelling}
 use Rattle.sshkey_base.proofs.Labels.{same_bytes}
-use Rattle.sshkey_keys_ref.specs.Keys.{certified_body_at, GivesNormal}
+use Rattle.sshkey_keys_ref.specs.KeyBytes.{certified_body_at, GivesNormal}
 use Rattle.sshkey_terms.specs.Slices.{found_or, is_taken, Keeps}
 use Rattle.sshkey_model.specs.Certificates.{SignedFields, CertificateChoices, CertificateType, signed_fields_at, type_format, time_format, end_format, Certificate, certificate_at, to_be_signed, IsCertificate, HasCertificatePlaces, certificate, SpellsCertificate}
 use Rattle.sshkey_model.proofs.CombinedReaders.{bind_assoc, whole_reads, ok_is, prefix}

@@ -12,7 +12,7 @@ use Rattle.sshkey_base.specs.Answers.{AnswersAlways}
 use Rattle.sshkey_base.specs.Causes.{encoding_cause, cause}
 use Rattle.sshkey_base.proofs.Boxes.{some_after}
 use Rattle.sshkey_keys_ref.specs.Taking.{TakesValue}
-use Rattle.sshkey_cert_ref.specs.Views.{nesting, value_pair_of, pair_of}
+use Rattle.sshkey_cert_ref.specs.SpelledOptions.{nesting, value_pair_of, pair_of}
 use Rattle.sshkey_terms.proofs.SliceFronts.{answers_ok, answers_err}
 use Rattle.sshkey_model.specs.Parts.{flat}
 use Rattle.sshkey_model.specs.Terms.{◌then◌, boxed}

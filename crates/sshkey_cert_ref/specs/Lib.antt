@@ -1,4 +1,5 @@
 pub mod Lists
+pub mod SpelledOptions
 pub mod Views
 pub mod Parts
 pub mod Certificates

@@ -1,23 +1,9 @@
--- Options with the choices of their spelling.
-use Rattle.std.specs.Prelude.{ℕ, List, Bool, true, false}
-use denote.Ref.{Bor}
-use Rattle.sshkey_model.specs.Options.{CertificateOption, Nesting, Plain, Nested}
-use Rattle.sshkey_cert_ref.specs.declared.certificate_options_ref.item.SpelledOption.{SpelledOption}
+-- What contracts see of borrowed lists.
+use Rattle.std.specs.Prelude.{ℕ, List}
+use Rattle.sshkey_model.specs.Options.{CertificateOption, Nesting}
 use Rattle.sshkey_cert_ref.specs.Lists.{texts_in, options_in, nestings_in}
 use Rattle.sshkey_cert_ref.specs.declared.certificate_options_ref.CertificateOptionsRef.{CertificateOptionsRef}
 use Rattle.sshkey_cert_ref.specs.declared.principals_ref.PrincipalsRef.{PrincipalsRef}
-
-abbrev pub nesting : Bool → Nesting
-nesting true = Nested
-nesting false = Plain
-
-abbrev pub value_pair_of : Bor (List ℕ) × Bool → List ℕ × Nesting
-value_pair_of v = (v.0.now, nesting v.1)
-
-abbrev pub pair_of : SpelledOption → CertificateOption × Nesting
-pair_of o = (record { name = o.name.now; value = o.value.now }, nesting o.nested)
-
--- What contracts see of borrowed lists.
 
 -- the bytes, and the texts in them
 abbrev pub bytes_of_texts : PrincipalsRef → List ℕ

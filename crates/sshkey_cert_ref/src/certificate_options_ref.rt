@@ -8,7 +8,7 @@ ghost use Rattle.sshkey_base.specs.Answers.{AnswersAlways};
 ghost use Rattle.sshkey_base.specs.Causes.{cause};
 ghost use Rattle.sshkey_terms.specs.Slices.{is_taken};
 ghost use Rattle.sshkey_cert_ref.specs.Lists.{are_plain, nestings_in, options_in, plainness_from};
-ghost use Rattle.sshkey_cert_ref.specs.Views.{pair_of};
+ghost use Rattle.sshkey_cert_ref.specs.SpelledOptions.{pair_of};
 
 mod item;
 mod iter;

@@ -13,7 +13,7 @@ use Rattle.sshkey_base.proofs.Accepted.{whole_spelled, spelled_whole}
 use Rattle.sshkey_keys.proofs.KeyReaders.{body_grammar}
 use Rattle.sshkey_terms.specs.Slices.{AcceptsSome, is_taken}
 use Rattle.sshkey_keys_ref.specs.Taking.{Skips, PassesFront}
-use Rattle.sshkey_keys_ref.specs.Keys.{SpellsCertifiedBody, certified_body_at}
+use Rattle.sshkey_keys_ref.specs.KeyBytes.{SpellsCertifiedBody, certified_body_at}
 use Rattle.sshkey_model.specs.Verification.{Question}
 use Rattle.sshkey_base.specs.Acceptance.{SpellsSome}
 use Rattle.sshkey_base.specs.Reading.{AcceptsWhole}

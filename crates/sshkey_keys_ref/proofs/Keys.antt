@@ -9,7 +9,7 @@ use Rattle.sshkey_model.proofs.KeyReaders.{key_reads}
 use Rattle.sshkey_model.proofs.NormalFits.{key_fits}
 use Rattle.sshkey_model.specs.Labels.{label_at}
 use Rattle.sshkey_keys.specs.KeyKinds.{is_rsa, is_ecdsa, is_ed25519}
-use Rattle.sshkey_keys_ref.specs.Keys.{HasPlainHead, IsRenamed, is_hashed, GivesFingerprintOf}
+use Rattle.sshkey_keys_ref.specs.KeyBytes.{HasPlainHead, IsRenamed, is_hashed, GivesFingerprintOf}
 use Rattle.sshkey_model.specs.Fingerprints as model
 use Rattle.sshkey_base.specs.Answers.{Answers}
 use Rattle.sshkey_base.specs.Causes.{cause}

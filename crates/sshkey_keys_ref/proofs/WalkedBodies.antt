@@ -17,7 +17,7 @@ use Rattle.sshkey_base.specs.Source.{all_of}
 use Rattle.sshkey_model.specs.Signatures.{signature_at, signature_blob_at, trailed_at}
 use Rattle.sshkey_model.specs.Labels.{label_at}
 use Rattle.sshkey_terms.specs.Slices.{is_taken}
-use Rattle.sshkey_keys_ref.specs.Keys.{certified_body_at}
+use Rattle.sshkey_keys_ref.specs.KeyBytes.{certified_body_at}
 
 -- the bytes that were taken: those that the rest lacks
 pub front_is : {Y : Type 0} {Spells : Y → List ℕ → Type 0} {b rest : List ℕ} → StandsAfter Spells b rest → IsFrontOf Spells b (take (length b - length rest) b) rest

@@ -1,3 +1,4 @@
 pub mod Taking
+pub mod KeyBytes
 pub mod Keys
 pub mod Signatures

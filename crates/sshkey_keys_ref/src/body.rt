@@ -6,7 +6,7 @@ ghost use Rattle.sshkey_base.specs.Names.{algorithm_of, curve_of};
 ghost use Rattle.sshkey_model.specs.Keys.{body_at};
 ghost use Rattle.sshkey_model.specs.Names as model;
 ghost use Rattle.sshkey_model.specs.Reading.{string_at};
-ghost use Rattle.sshkey_keys_ref.specs.Keys.{SpellsCertifiedBody, TakesBody, certified_body_at, named_of};
+ghost use Rattle.sshkey_keys_ref.specs.KeyBytes.{SpellsCertifiedBody, TakesBody, certified_body_at, named_of};
 ghost use Rattle.sshkey_keys_ref.specs.Taking.{Skips, PassesFront, CutsFront};
 
 use crate::kinds::{DsaRef, EcdsaRef, Ed25519Ref, RsaRef, SkEcdsaRef, SkEd25519Ref};

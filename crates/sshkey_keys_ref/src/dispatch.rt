@@ -8,7 +8,8 @@ ghost use Rattle.sshkey_model.specs.Verification.{asked, asked_within, question_
 ghost use Rattle.sshkey_keys.specs.Keys.{key_of};
 ghost use Rattle.sshkey_keys.specs.KeyKinds.{is_security_key};
 ghost use Rattle.sshkey_keys_ref.specs.Signatures.{AnswersKey, AreAccepted, AsksBytes, DispatchesBytes, IsAskedAs, IsBlobIn, signature_by, signature_bytes};
-ghost use Rattle.sshkey_keys_ref.specs.Keys.{key_bytes, Means, named_of};
+ghost use Rattle.sshkey_keys_ref.specs.KeyBytes.{named_of};
+ghost use Rattle.sshkey_keys_ref.specs.Keys.{key_bytes, Means};
 
 use crate::key_data_ref::KeyDataRef;
 use crate::key_ref::{KeyRef, key_in};

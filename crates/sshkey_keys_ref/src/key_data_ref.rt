@@ -7,7 +7,7 @@ ghost use Rattle.sshkey_base.specs.Causes.{NoMemory, cause};
 ghost use Rattle.sshkey_base.specs.Names.{algorithm_of as named_algorithm, hash_of};
 ghost use Rattle.sshkey_model.specs.Reading.{whole};
 ghost use Rattle.sshkey_model.specs.Keys.{SpellsKey, key_data_at};
-ghost use Rattle.sshkey_keys_ref.specs.Keys.{GivesFingerprintOf, GivesNormal, HasPlainHead, is_hashed, named_of};
+ghost use Rattle.sshkey_keys_ref.specs.KeyBytes.{GivesFingerprintOf, GivesNormal, HasPlainHead, is_hashed, named_of};
 ghost use Rattle.sshkey_keys_ref.specs.Taking.{Skips};
 ghost use Rattle.sshkey_terms.specs.Slices.{AcceptsSome, is_taken};
 

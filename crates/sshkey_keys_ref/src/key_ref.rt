@@ -4,7 +4,8 @@ ghost use Rattle.std.specs.Prelude.{Option};
 ghost use Rattle.sshkey_base.specs.Names.{algorithm_of};
 ghost use Rattle.sshkey_keys.specs.Keys.{key_of};
 ghost use Rattle.sshkey_model.specs.Names as model;
-ghost use Rattle.sshkey_keys_ref.specs.Keys.{HoldsBody, HoldsKey, Means, named_of};
+ghost use Rattle.sshkey_keys_ref.specs.KeyBytes.{named_of};
+ghost use Rattle.sshkey_keys_ref.specs.Keys.{HoldsBody, HoldsKey, Means};
 ghost use Rattle.sshkey_keys_ref.specs.Taking.{Finds};
 
 use crate::kinds::{DsaRef, EcdsaRef, Ed25519Ref, RsaRef, SkEcdsaRef, SkEd25519Ref};

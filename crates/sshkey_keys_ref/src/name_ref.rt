@@ -4,7 +4,7 @@ ghost use Rattle.sshkey_base.specs.Answers.{AnswersAlways};
 ghost use Rattle.sshkey_base.specs.Causes.{cause};
 ghost use Rattle.sshkey_model.specs.Labels.{label_at};
 ghost use Rattle.sshkey_model.specs.Names.{algorithm_from};
-ghost use Rattle.sshkey_keys_ref.specs.Keys.{named_of};
+ghost use Rattle.sshkey_keys_ref.specs.KeyBytes.{named_of};
 ghost use Rattle.sshkey_keys_ref.specs.Taking.{TakesValue};
 
 use sshkey_base::{Algorithm, Error, Result, encoding};

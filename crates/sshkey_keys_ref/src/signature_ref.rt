@@ -6,7 +6,7 @@ ghost use Rattle.sshkey_base.specs.Answers.{AnswersAlways, Judges};
 ghost use Rattle.sshkey_base.specs.Causes.{NoMemory, cause};
 ghost use Rattle.sshkey_model.specs.Reading.{whole, string_at, checked_at};
 ghost use Rattle.sshkey_model.specs.Signatures.{has_trailer, string_from, signature_at, signature_blob_at, trailed_at, SpellsSignature};
-ghost use Rattle.sshkey_keys_ref.specs.Keys.{named_of};
+ghost use Rattle.sshkey_keys_ref.specs.KeyBytes.{named_of};
 ghost use Rattle.sshkey_keys_ref.specs.Taking.{Skips};
 ghost use Rattle.sshkey_terms.specs.Slices.{AcceptsSome, is_taken};
 

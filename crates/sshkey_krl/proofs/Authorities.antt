@@ -4,7 +4,7 @@ use Rattle.std.specs.Prelude.{bytes_eq, codes, drop, take, nat_eq}
 use Rattle.std.proofs.lemmas.List.{length-append}
 use Rattle.sshkey_model.specs.Keys.{Head, Head256, Head512, HasHead, Key, Plain, body, key, key_algorithm, normal_key, SpellsKey}
 use Rattle.sshkey_model.specs.Parts.{flat}
-use Rattle.sshkey_keys_ref.specs.Keys.{IsRenamed}
+use Rattle.sshkey_keys_ref.specs.KeyBytes.{IsRenamed}
 use Rattle.sshkey_krl.specs.Writing.{ssh_rsa}
 
 regrouped : (h p q : Bool) → (h && (p && q)) ≡ ((h && p) && q)

@@ -7,7 +7,7 @@ ghost use Rattle.sshkey_model.specs.Terms.{boxed};
 ghost use Rattle.sshkey_model.specs.Texts.{text_at};
 ghost use Rattle.sshkey_base.specs.Answers.{AnswersAlways};
 ghost use Rattle.sshkey_base.specs.Causes.{cause, encoding_cause};
-ghost use Rattle.sshkey_cert_ref.specs.Views.{pair_of, value_pair_of};
+ghost use Rattle.sshkey_cert_ref.specs.SpelledOptions.{pair_of, value_pair_of};
 ghost use Rattle.sshkey_keys_ref.specs.Taking.{TakesValue};
 
 use crate::strings::take_string;

@@ -1,7 +1,7 @@
 use Rattle.std.proofs.Common.{◌<◌, length, sym, ◌∙◌, arith, option_map, refl}
 use Rattle.std.proofs.lemmas.Bool.{eqb-true, eqb-false}
 use Rattle.std.proofs.lemmas.Result.{err_from_is_err_and}
-use Rattle.sshkey_cert_ref.specs.Views.{pair_of}
+use Rattle.sshkey_cert_ref.specs.SpelledOptions.{pair_of}
 use Rattle.sshkey_cert_ref.proofs.OptionSteps.{walk_on, walk_less, walk_refused, walk_ends}
 use Rattle.sshkey_cert_ref.proofs.certificate_options_ref.check_options.Goals as goal
 

@@ -1,5 +1,5 @@
 use Rattle.std.proofs.Common.{true}
-use Rattle.sshkey_keys_ref.specs.Keys.{named_of}
+use Rattle.sshkey_keys_ref.specs.KeyBytes.{named_of}
 use Rattle.sshkey_keys_ref.proofs.Keys.{plain_head, no_head}
 use Rattle.sshkey_keys_ref.proofs.key_data_ref.is_headed_plainly.Goals as goal
 

@@ -1,5 +1,5 @@
 use Rattle.std.proofs.Common.{[]}
-use Rattle.sshkey_keys_ref.specs.Keys.{named_of}
+use Rattle.sshkey_keys_ref.specs.KeyBytes.{named_of}
 use Rattle.sshkey_keys_ref.proofs.Keys.{body_after, no_body}
 use Rattle.sshkey_keys_ref.proofs.key_ref.key_in.Goals as goal
 

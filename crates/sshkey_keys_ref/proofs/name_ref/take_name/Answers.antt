@@ -2,7 +2,7 @@ use Rattle.sshkey_base.specs.Causes.{cause}
 use Rattle.sshkey_model.specs.Labels.{label_at}
 use Rattle.sshkey_model.specs.Names.{algorithm_from}
 use Rattle.sshkey_model.specs.Reading.{string_at}
-use Rattle.sshkey_keys_ref.specs.Keys.{named_of}
+use Rattle.sshkey_keys_ref.specs.KeyBytes.{named_of}
 use Rattle.sshkey_base.proofs.Judging.{judged_always}
 use Rattle.sshkey_keys_ref.proofs.name_ref.take_name.Goals as goal
 

@@ -1,7 +1,7 @@
 use Rattle.sshkey_base.specs.Causes.{cause}
 use Rattle.sshkey_model.specs.Reading.{string_at}
 use Rattle.sshkey_model.specs.Signatures.{string_from}
-use Rattle.sshkey_keys_ref.specs.Keys.{named_of}
+use Rattle.sshkey_keys_ref.specs.KeyBytes.{named_of}
 use Rattle.sshkey_keys_ref.proofs.WalkedBodies.{skips_checked}
 use Rattle.sshkey_keys_ref.proofs.signature_ref.after_checked.Goals as goal
 

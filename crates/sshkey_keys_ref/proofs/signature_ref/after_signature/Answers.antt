@@ -1,5 +1,5 @@
 use Rattle.sshkey_base.specs.Causes.{cause}
-use Rattle.sshkey_keys_ref.specs.Keys.{named_of}
+use Rattle.sshkey_keys_ref.specs.KeyBytes.{named_of}
 use Rattle.sshkey_keys_ref.proofs.WalkedBodies.{skips_signature}
 use Rattle.sshkey_keys_ref.proofs.signature_ref.after_signature.Goals as goal
 

@@ -4,7 +4,7 @@ use Rattle.sshkey_model.specs.Options.{spelled_value_format}
 use Rattle.sshkey_model.specs.Reading.{whole}
 use Rattle.sshkey_model.specs.Terms.{boxed}
 use Rattle.sshkey_base.specs.Causes.{encoding_cause}
-use Rattle.sshkey_cert_ref.specs.Views.{value_pair_of}
+use Rattle.sshkey_cert_ref.specs.SpelledOptions.{value_pair_of}
 use Rattle.sshkey_cert_ref.proofs.OptionLists.{box_bytes, no_string, in_string}
 use Rattle.sshkey_cert_ref.proofs.certificate_options_ref.item.take_value.Goals as goal
 

@@ -1,6 +1,6 @@
 use Rattle.sshkey_keys.proofs.KeyReaders.{key_grammar}
 use Rattle.sshkey_keys.proofs.SignatureReaders.{signature_grammar}
-use Rattle.sshkey_keys_ref.specs.Keys.{named_of}
+use Rattle.sshkey_keys_ref.specs.KeyBytes.{named_of}
 use Rattle.sshkey_keys_ref.proofs.Signatures.{blob_formed, asked_bytes, dispatched, no_signature}
 use Rattle.sshkey_keys_ref.proofs.Acceptance.{accepted_exactly, some_spelled}
 use Rattle.sshkey_keys_ref.proofs.key_data_ref.KeyDataRef.accepts.Goals as goal
