@@ -1,12 +1,8 @@
 -- A value that is made of another one, in a box or before what is left.
-use Rattle.std.proofs.Common.{◌≡◌, ℕ, ◌≤◌, ◌<◌, Bool, true, false, ltb, List, length, take, drop, Result, Ok, Err, refl, sym, ap, ◌∙◌, arith, cond}
+use Rattle.std.proofs.Common.{◌≡◌, ℕ, Bool, true, false, ltb, List, length, take, drop, Result, Ok, Err, refl, ap, ◌∙◌, cond}
 use Rattle.std.specs.Int.{w32}
-use Rattle.std.proofs.lemmas.List.{length-drop}
-use Rattle.sshkey_model.specs.Parts.{number, flat}
 use Rattle.sshkey_model.specs.Reading.{Fault, Length, ◌>>=◌, Whole, number_at, box_at}
-use Rattle.sshkey_model.proofs.CombinedReaders.{bind_ok, ok_is, passed, number_reads, wide32}
 use Rattle.sshkey_base.proofs.Lengths.{with_rest, box_step}
-use Rattle.sshkey_base.proofs.ReadLists.{leaves_less}
 
 -- another value, with the same rest
 abbrev pub on_value : {A B : Type 0} → (A → B) → A × List ℕ → Result (B × List ℕ) Fault
@@ -37,19 +33,3 @@ box_map {A} {B} read other f same b = go (number_at w32 b)
     go : (n : Result (ℕ × List ℕ) Fault) → (n >>= box_step other) ≡ ((n >>= box_step read) >>= on_value f)
     go (Ok n) = second_same (ltb (length n.1) n.0) (Err Length) _ _ (first_same (other (take n.0 n.1)) (read (take n.0 n.1) >>= made f) (with_rest (drop n.0 n.1)) (same (take n.0 n.1)) ∙ made_rest f (read (take n.0 n.1)) (drop n.0 n.1)) ∙ through (ltb (length n.1) n.0) Length (read (take n.0 n.1) >>= with_rest (drop n.0 n.1)) (on_value f)
     go (Err e) = refl
-
-number_shows : (k : ℕ) → 0 < length (flat (number w32 k))
-unfolding flat
-number_shows k = omega arith
-
--- a box leaves no more than there was
-pub box_leaves : {A : Type 0} (read : Whole A) (b : List ℕ) (x : A) (rest : List ℕ) → box_at read b ≡ Ok (x, rest) → length rest ≤ length b
-unfolding box_at
-box_leaves {A} read b x rest e =
-    let n = bind_ok (number_at w32 b) (box_step read) (x, rest) e in
-    let p = passed (ltb (length n.0.1) n.0.0) Length (read (take n.0.0 n.0.1) >>= with_rest (drop n.0.0 n.0.1)) (x, rest) n.2 in
-    let v = bind_ok (read (take n.0.0 n.0.1)) (with_rest (drop n.0.0 n.0.1)) (x, rest) p.1 in
-    let less : length n.0.1 < length b = leaves_less (number_reads w32 wide32) number_shows b n.0.0 n.0.1 n.1 in
-    let is : drop n.0.0 n.0.1 ≡ rest = ap (λ (y : A × List ℕ). y.1) (ok_is (v.0, drop n.0.0 n.0.1) (x, rest) v.2) in
-    let len : length rest ≡ length (drop n.0.0 n.0.1) = ap length (sym is) in
-    omega (arith, length-drop n.0.0 n.0.1)

@@ -2,12 +2,12 @@
 use Rattle.std.proofs.Common.{◌≡◌, ℕ, ◌+◌, ◌*◌, ◌/◌, ◌%◌, ◌≤◌, true, false, cond, eqb, ltb, List, [], ◌∷◌, length, Ok, Err, refl, subst, arith, inl, inr, ◌&&◌, ◌||◌}
 use Rattle.std.proofs.lemmas.Bool.{and_parts, and_from, or_cases, or_left, or_right, eqb-true, eq-eqb, le-ltb}
 use Rattle.sshkey_model.specs.Parts.{bytes}
-use Rattle.sshkey_model.specs.Reading.{Length, AlgorithmUnknown, Ecdsa, ◌>>=◌, checked_at}
+use Rattle.sshkey_model.specs.Reading.{Length, Ecdsa, ◌>>=◌}
 use Rattle.sshkey_model.specs.Texts.{string}
 use Rattle.sshkey_model.specs.Names.{Curve, Nistp256, Nistp384, Nistp521}
-use Rattle.sshkey_model.specs.Points.{field_size, is_point, IsPoint, curve_eq, of_curve, curve_of_size, point_curve, point_from, p256_point_from, IsPointOf, point_format}
+use Rattle.sshkey_model.specs.Points.{field_size, is_point, IsPoint, curve_eq, curve_of_size, point_curve, point_from, p256_point_from, IsPointOf, point_format}
 use Rattle.sshkey_model.specs.Grammar.{Checks}
-use Rattle.sshkey_model.proofs.CombinedReaders.{bind_ok, ok_is, done, passed, chosen, ReadsFront, Any, kept, kept_bytes, checked_reads, checked_string_reads}
+use Rattle.sshkey_model.proofs.CombinedReaders.{bind_ok, ok_is, done, passed, chosen, ReadsFront, Any, kept_bytes, checked_string_reads}
 
 sized : (n : ℕ) (c : Curve) → curve_of_size n ≡ Ok c → n ≡ field_size c
 sized n c e =
@@ -110,7 +110,3 @@ p256_point_checks = record { takes = there; again = back }
 
 pub point_reads : ReadsFront IsPointOf (λ x. string x.1) point_format.read
 point_reads = checked_string_reads point_checks
-
--- a point string of the stated curve
-pub of_curve_reads : (stated : Curve) → ReadsFront (λ x. IsPointOf x × (curve_eq x.0 stated ≡ true)) (λ x. string x.1) (checked_at (of_curve stated) point_format.read)
-of_curve_reads stated = checked_reads (kept (λ x. curve_eq x.0 stated) AlgorithmUnknown) point_reads

@@ -1,7 +1,7 @@
 -- Worked examples: lines of keys.
 use Rattle.std.specs.Prelude.{◌≡◌, ℕ, List, ◌++◌, filter, codes}
 use Rattle.sshkey_model.specs.HexText.{hex}
-use Rattle.sshkey_model.specs.Keys.{Key, Rsa, key}
+use Rattle.sshkey_model.specs.Keys.{Key, Rsa}
 use Rattle.sshkey_model.specs.PrivateKeys.{rising}
 use Rattle.sshkey_model.specs.Lines.{is_word_character, IsKeyLine, IsNoKeyLine}
 use Rattle.sshkey_model.specs.KeyExamples.{rsa_key}

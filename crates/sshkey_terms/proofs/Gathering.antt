@@ -25,10 +25,6 @@ module _ {A : Type 0} (f : Format A) where
   abbrev delimited_at : Front A
   delimited_at = f.delimited_at
 
-  same_step : (r : Result (List A × List ℕ) Fault) → r ≡ (r >>= onto [])
-  same_step (Ok xs) = refl
-  same_step (Err e) = refl
-
   one_more : (k : ℕ) (b rest : List ℕ) (x : A) (done : List A) → item b ≡ Ok (x, rest) → (times_at item (suc k) b >>= onto done) ≡ (times_at item k rest >>= onto (done ++ x ∷ []))
   unfolding times_at
   one_more k b rest x done e = rw e (go (times_at item k rest))

@@ -66,7 +66,8 @@ impl EcdsaCurve {
 impl FromStr for EcdsaCurve {
     type Err = LabelError;
 
-    ghost from_str_gives = { λ name r. NamesAlways curve_of (λ _. Faulty fault.Label) (curve_from name) r };
+    ghost from_str_gives = { λ name r.
+        NamesAlways curve_of (λ _. Faulty fault.Label) (curve_from name) r };
 
     fn from_str(name: &str) -> std::result::Result<EcdsaCurve, LabelError> {
         match name {

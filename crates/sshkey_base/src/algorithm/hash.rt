@@ -80,7 +80,8 @@ impl HashAlg {
 impl FromStr for HashAlg {
     type Err = LabelError;
 
-    ghost from_str_gives = { λ name r. NamesAlways hash_of (λ _. Faulty fault.Label) (hash_from name) r };
+    ghost from_str_gives = { λ name r.
+        NamesAlways hash_of (λ _. Faulty fault.Label) (hash_from name) r };
 
     fn from_str(name: &str) -> std::result::Result<HashAlg, LabelError> {
         match name {
