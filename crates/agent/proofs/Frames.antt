@@ -2,13 +2,10 @@
 use Rattle.std.proofs.Common.{◌≡◌, ◌+◌, ℕ, length, IsErrAnd, Result, Ok, Err, ap, arith, refl, inl, inr, ◌<◌, List, [], ◌++◌, append-nil, subst, sym}
 use Rattle.std.specs.Int.{w8}
 use Rattle.ssh_key.specs.base.Causes.{NoMemory, cause}
-use Rattle.ssh_key.specs.base.Formats.{Stops}
+use Rattle.ssh_key.specs.base.Formats.{Stops, Stopped}
 use Rattle.ssh_key.specs.model.Formats.{Format, IsFormat}
-use Rattle.ssh_key.specs.base.Needs.{Asks}
-use Rattle.ssh_key.specs.base.Reading.{Gives, IsRefused, Reads}
+use Rattle.ssh_key.specs.base.Reading.{Asks, Gives, IsRefused, Reads, IsSound, Source}
 use Rattle.ssh_key.specs.base.Sink.{IsLength, MeasuresBoxed}
-use Rattle.ssh_key.specs.base.Source.{IsSound, Source}
-use Rattle.ssh_key.specs.base.Stops.{Stopped}
 use Rattle.ssh_key.specs.model.Parts.{Parts, box, number, ◌&◌, flat, BoxesFit, Fits}
 use Rattle.ssh_key.specs.model.Terms.{tested}
 use Rattle.ssh_key.specs.types.Error as wide

@@ -3,9 +3,7 @@
 ghost use Rattle.std.specs.Prelude.{◌+◌, ◌*◌, ◌^◌};
 ghost use Rattle.ssh_key.specs.base.Causes.{cause};
 ghost use Rattle.ssh_key.specs.base.Formats.{Stops};
-ghost use Rattle.ssh_key.specs.base.Needs.{Asks};
-ghost use Rattle.ssh_key.specs.base.Reading.{Gives};
-ghost use Rattle.ssh_key.specs.base.Source.{Later};
+ghost use Rattle.ssh_key.specs.base.Reading.{Asks, Gives, Later};
 ghost use Rattle.agent.specs.Records as model;
 ghost use Rattle.agent.specs.Records.{IsWellFormedConstraint, body_format, constraint, constraint_format, constraint_of};
 

@@ -4,10 +4,8 @@ ghost use Rattle.std.specs.Prelude.{◌+◌, ◌<◌, ◌≤◌, ◌^◌, IfOk};
 ghost use Rattle.ssh_key.specs.base.Causes.{cause};
 ghost use Rattle.ssh_key.specs.base.Formats.{Stops};
 ghost use Rattle.ssh_key.specs.model.Formats.{Format, IsFormat};
-ghost use Rattle.ssh_key.specs.base.Needs.{Asks};
-ghost use Rattle.ssh_key.specs.base.Reading.{Gives};
+ghost use Rattle.ssh_key.specs.base.Reading.{Asks, Gives, Later};
 ghost use Rattle.ssh_key.specs.base.Sink.{Encodes, Measures, MeasuresBoxed};
-ghost use Rattle.ssh_key.specs.base.Source.{Later};
 ghost use Rattle.ssh_key.specs.model.Parts.{Parts, ◌&◌, box};
 
 mod read;

@@ -1,12 +1,10 @@
 //! What the number stands for that a message or a constraint begins with.
 
 ghost use Rattle.std.specs.Prelude.{ℕ, Result};
-ghost use Rattle.ssh_key.specs.base.Answers.{AnswersAlways};
+ghost use Rattle.ssh_key.specs.base.Judgements.{AnswersAlways};
 ghost use Rattle.ssh_key.specs.base.Causes.{cause};
 ghost use Rattle.ssh_key.specs.base.Formats.{Stops};
-ghost use Rattle.ssh_key.specs.base.Needs.{Asks};
-ghost use Rattle.ssh_key.specs.base.Reading.{Gives};
-ghost use Rattle.ssh_key.specs.base.Source.{Later};
+ghost use Rattle.ssh_key.specs.base.Reading.{Asks, Gives, Later};
 ghost use Rattle.ssh_key.specs.model.Reading.{Fault};
 ghost use Rattle.agent.specs.Records.{numbered};
 

@@ -1,10 +1,9 @@
 -- What a verdict, an entry and a line decide.
 use Rattle.std.proofs.Common.{◌≡◌, ◌≢◌, ◌⊎◌, ◌↔◌, ◌==◌, ◌∙◌, ℕ, List, [], ◌∷◌, ◌++◌, length, slice_index, eqb-true, arith, sym, ap, Bool, true, false, Option, Some, None, Result, Ok, Err, IfErr, IfOk, IsTrue, refl, subst, inl, inr, zero, suc}
 use Rattle.std.specs.Str.{IsUtf8}
-use Rattle.sshkey_base.specs.Acceptance.{AcceptsExactly}
+use Rattle.sshkey_base.specs.Judgements.{AcceptsExactly}
 use Rattle.sshkey_base.specs.Causes.{NoMemory, cause}
-use Rattle.sshkey_base.specs.Reading.{NoSpelling}
-use Rattle.sshkey_base.specs.Source.{IsSound, all_of}
+use Rattle.sshkey_base.specs.Reading.{NoSpelling, IsSound, all_of}
 use Rattle.sshkey_entries.specs.AuthorizedKeys.{AuthorizedKey}
 use Rattle.sshkey_authorized_keys.proofs.OptionEnds.{bad_key, comment_read, options_read, uncut}
 use Rattle.sshkey_authorized_keys.specs.OpenSshEntries.{HasNoEnd}
@@ -21,8 +20,7 @@ use Rattle.sshkey_model.specs.Parts.{BoxesFit, Parts}
 use Rattle.sshkey_model.specs.SignedMessages.{signed_by}
 use Rattle.sshkey_model.specs.SshSignatures.{SshSignature}
 use Rattle.sshkey_model.specs.Verification.{IsAccepted, Question}
-use Rattle.sshkey_sshsig.specs.SshSignatureFormats.{ssh_signature_format}
-use Rattle.sshkey_sshsig.specs.SshSignatureReaders.{SpellsSshSignature}
+use Rattle.sshkey_sshsig.specs.SshSignatureFormats.{ssh_signature_format, SpellsSshSignature}
 use Rattle.sshkey_base.specs.declared.error.Error.{Error}
 use Rattle.sshkey_base.specs.declared.error.Error.TheVariants.{Encoding, Memory}
 use Rattle.sshkey_base.specs.declared.encoding.Error.TheVariants.{Length}

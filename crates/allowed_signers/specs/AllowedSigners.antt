@@ -15,7 +15,7 @@ use denote.Ref.{Bor}
 use Rattle.std.specs.List.{Any}
 use Rattle.std.specs.Str.{IsUtf8}
 use Rattle.openssh_limits.specs.Limits.{HasReadApplication}
-use Rattle.sshkey_base.specs.Acceptance.{SpellsSome}
+use Rattle.sshkey_base.specs.Judgements.{SpellsSome}
 use Rattle.sshkey_base.specs.Reading.{NoSpelling}
 use Rattle.sshkey_entries.specs.AuthorizedKeys.{AuthorizedKey}
 use Rattle.sshkey_entries.specs.OpenSshLines.{IsAuthorizedLine}
@@ -24,8 +24,7 @@ use Rattle.sshkey_model.specs.Keys.{Key}
 use Rattle.sshkey_model.specs.SignedMessages.{IsVerified}
 use Rattle.sshkey_model.specs.SshSignatures.{SshSignature}
 use Rattle.sshkey_model.specs.Verification.{Question}
-use Rattle.sshkey_sshsig.specs.SshSignatureFormats.{ssh_signature_format}
-use Rattle.sshkey_sshsig.specs.SshSignatureReaders.{SpellsSshSignature}
+use Rattle.sshkey_sshsig.specs.SshSignatureFormats.{ssh_signature_format, SpellsSshSignature}
 use Rattle.sshkey_sshsig.specs.SshSignatures.{ssh_signature_of}
 use Rattle.sshkey_base.specs.declared.error.Error.{Error}
 use Rattle.sshkey_base.specs.declared.error.Error.TheVariants as error

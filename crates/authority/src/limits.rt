@@ -2,7 +2,7 @@
 
 ghost use Rattle.std.specs.List.{list_all};
 ghost use Rattle.std.specs.Prelude.{◌≡◌, ◌≢◌, ◌↔◌, ◌≤◌, ◌<◌, ◌+◌, ◌^◌, [], IfErr, IsTrue, All, length, map, string_bytes};
-ghost use Rattle.ssh_key.specs.base.Acceptance.{AcceptsExactly};
+ghost use Rattle.ssh_key.specs.base.Judgements.{AcceptsExactly};
 ghost use Rattle.authority.specs.Issuance.{all, IsAllowedName, IsWithinLimits, RefusesRequest, has_no_zero, is_allowed, is_listed};
 
 use crate::keys::KeyKinds;

@@ -4,7 +4,7 @@ use Rattle.sshkey_base.specs.declared.error.Error.{Error}
 use Rattle.sshkey_cert.specs.Validity.{FindsRefusal, fingerprint_of, fingerprints_of, refusal_of, IsSigned}
 use Rattle.sshkey_cert.specs.declared.certificate.refusal.CertificateRefusal.{CertificateRefusal}
 use Rattle.sshkey_fingerprints.specs.declared.fingerprint.Fingerprint.{Fingerprint}
-use Rattle.sshkey_keys.specs.Fingerprints.{IsFingerprint}
+use Rattle.sshkey_keys.specs.Keys.{IsFingerprint}
 use Rattle.sshkey_model.specs.Certificates.{Certificate}
 use Rattle.sshkey_model.specs.Fingerprints as model
 use Rattle.sshkey_model.specs.Fingerprints.{fingerprint}

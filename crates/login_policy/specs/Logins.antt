@@ -3,7 +3,7 @@ use Rattle.std.specs.Prelude.{◌≢◌, ℕ, List, [], ◌≡◌, Bool, not, �
 use Rattle.openssh_limits.specs.Limits.{AreReadPrincipals, openssh_accepts_key}
 use Rattle.sshkey_matching.specs.SourceAddresses.{ComesFrom, IsNetworks}
 use Rattle.sshkey_cert.specs.Validity.{fingerprints_of, certificate_question}
-use Rattle.sshkey_keys.specs.Fingerprints.{IsFingerprint}
+use Rattle.sshkey_keys.specs.Keys.{IsFingerprint}
 use Rattle.sshkey_krl.specs.Revocation as krl
 use Rattle.sshkey_krl.specs.Revocations.{is_certificate_revoked}
 use Rattle.sshkey_model.specs.Certificates.{Certificate, User, normal_certificate, SpellsCertificate}

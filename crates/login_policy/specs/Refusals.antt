@@ -4,7 +4,7 @@ use Rattle.sshkey_cert.specs.Validity.{refusal_of}
 use Rattle.sshkey_cert.specs.declared.certificate.refusal.CertificateRefusal.{CertificateRefusal}
 use Rattle.sshkey_cert.specs.declared.certificate.refusal.CertificateRefusal.TheVariants.{Authority, Signature}
 use Rattle.sshkey_cert.specs.Certificates.{IsFaultOf}
-use Rattle.sshkey_keys.specs.Fingerprints.{IsShort}
+use Rattle.sshkey_keys.specs.Keys.{IsShort}
 use Rattle.sshkey_krl.specs.Revocations.{is_certificate_revoked}
 use Rattle.sshkey_model.specs.Certificates.{Certificate, User, normal_certificate, certificate_format, SpellsCertificate}
 use Rattle.sshkey_model.specs.Fingerprints.{Fingerprint}

@@ -3,7 +3,7 @@
 ghost use Rattle.std.specs.Prelude.{◌≡◌, ◌≢◌, None, false, true, IfErr, IfOk, OnOk, option_map};
 ghost use Rattle.sshkey_cert.specs.Certificates.{certificate_of};
 ghost use Rattle.sshkey_cert.specs.Validity.{fingerprints_of, refusal_of};
-ghost use Rattle.sshkey_keys.specs.Fingerprints.{IsFingerprint};
+ghost use Rattle.sshkey_keys.specs.Keys.{IsFingerprint};
 ghost use Rattle.sshkey_krl.specs.Revocations.{is_certificate_revoked};
 ghost use Rattle.sshkey_model.specs.Names.{Sha256};
 ghost use Rattle.sshkey_model.specs.Refusals.{UnlistedPrincipal, allows, or_else, refusal_of_authority_or_time, unless};

@@ -2,7 +2,7 @@
 
 ghost use Rattle.std.specs.Prelude.{◌≡◌, ◌↔◌, IfErr, IfOk, IsTrue, option_map, string_bytes};
 ghost use Rattle.sshkey_cert.specs.Certificates.{certificate_of};
-ghost use Rattle.sshkey_keys.specs.Fingerprints.{IsFingerprint};
+ghost use Rattle.sshkey_keys.specs.Keys.{IsFingerprint};
 ghost use Rattle.sshkey_model.specs.Names.{Sha256};
 ghost use Rattle.sshkey_base.specs.declared.error.Error.TheVariants.{Memory};
 ghost use Rattle.login_policy.specs.Logins.{IsGrantOf, IsUnbound};

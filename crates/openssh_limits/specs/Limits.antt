@@ -6,7 +6,7 @@ use Rattle.sshkey_model.specs.Lines.{IsWithout}
 use Rattle.std.specs.Int.{w8, leading_zeros}
 use Rattle.std.specs.List.{list_any}
 use Rattle.sshkey_model.specs.Mpints.{positive_part}
-use Rattle.sshkey_keys.specs.KeyKinds.{is_dsa}
+use Rattle.sshkey_keys.specs.Keys.{is_dsa}
 
 -- The principals of a certificate, at most 256.
 pub record AreReadPrincipals (names : List (List ℕ)) : Type 0 where

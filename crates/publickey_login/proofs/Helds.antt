@@ -12,7 +12,7 @@ use Rattle.sshkey_cert.proofs.Certificates.{certificate_grammar}
 use Rattle.sshkey_cert.specs.Validity.{fingerprints_of}
 use Rattle.sshkey_cert_values.specs.CertificateFields.{options_of}
 use Rattle.sshkey_fingerprints.specs.declared.fingerprint.Fingerprint.{Fingerprint}
-use Rattle.sshkey_keys.specs.Fingerprints.{IsFingerprint}
+use Rattle.sshkey_keys.specs.Keys.{IsFingerprint}
 use Rattle.sshkey_model.proofs.Grammars.{one_front}
 use Rattle.sshkey_model.specs.Certificates.{Certificate, SpellsCertificate, normal_certificate}
 use Rattle.sshkey_model.specs.Fingerprints as model

@@ -4,7 +4,7 @@ use Rattle.login_policy.specs.Logins as policy
 use Rattle.login_terms.specs.Options.{terms_of}
 use Rattle.openssh_limits.specs.Limits.{openssh_accepts_key}
 use Rattle.sshkey_cert.specs.Validity.{certificate_question}
-use Rattle.sshkey_keys.specs.Fingerprints.{IsFingerprint}
+use Rattle.sshkey_keys.specs.Keys.{IsFingerprint}
 use Rattle.sshkey_krl.specs.Revocations.{is_key_revoked}
 use Rattle.sshkey_model.specs.Certificates.{Certificate, SpellsCertificate}
 use Rattle.sshkey_model.specs.Fingerprints.{Fingerprint}

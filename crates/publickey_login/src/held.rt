@@ -3,9 +3,8 @@
 ghost use Rattle.std.specs.Prelude.{◌≡◌, ◌≢◌, ℕ, List, Bool, IfErr, IfOk};
 ghost use Rattle.sshkey_base.specs.declared.error.Error.TheVariants as error;
 ghost use Rattle.sshkey_cert.specs.Certificates.{certificate_of};
-ghost use Rattle.sshkey_keys.specs.Keys.{key_of};
+ghost use Rattle.sshkey_keys.specs.Keys.{key_of, IsFingerprint};
 ghost use Rattle.sshkey_keys_ref.specs.Keys.{key_bytes};
-ghost use Rattle.sshkey_keys.specs.Fingerprints.{IsFingerprint};
 ghost use Rattle.sshkey_krl.specs.Revocation.{CertificateIdentity};
 ghost use Rattle.sshkey_model.specs.Certificates.{SpellsCertificate};
 ghost use Rattle.sshkey_model.specs.Names.{Sha256};

@@ -1,2 +1,2 @@
 -- Bytes that are read and then judged.
-pub use Rattle.sshkey_base.proofs.Judging.{judged, only_memory, judged_asks, answers_first, answers_later}
+pub use Rattle.sshkey_base.proofs.Steps.{judged, only_memory, judged_asks, answers_first, answers_later}

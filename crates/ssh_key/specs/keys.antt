@@ -1,10 +1,5 @@
 pub use Rattle.sshkey_keys.specs.Keys
-pub use Rattle.sshkey_keys.specs.KeyKinds
-pub use Rattle.sshkey_keys.specs.NameStrings
-pub use Rattle.sshkey_keys.specs.Comparisons
-pub use Rattle.sshkey_keys.specs.Fingerprints
+pub use Rattle.sshkey_keys.specs.Blobs
 pub use Rattle.sshkey_keys.specs.SignatureForms
 pub use Rattle.sshkey_keys.specs.Signatures
 pub use Rattle.sshkey_keys.specs.Questions
-pub use Rattle.sshkey_keys.specs.Verdicts
-pub use Rattle.sshkey_keys.specs.Blobs

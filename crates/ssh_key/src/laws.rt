@@ -32,7 +32,7 @@ ghost use Rattle.sshkey_model.specs.SshSignatures.{HasSshSignaturePlaces, IsSshS
 ghost use Rattle.sshkey_model.specs.Texts.{IsText, string, text_at, texts, texts_at};
 ghost use Rattle.sshkey_ciphers.specs.Formats.{cipher_at, kdf_algorithm_at, kdf_at};
 ghost use Rattle.sshkey_private.specs.PrivateKeyFormats.{HasPaddedPlaces, padded_private_key, private_value_at};
-ghost use Rattle.sshkey_sshsig.specs.SshSignatureReaders.{ssh_signature_value_at};
+ghost use Rattle.sshkey_sshsig.specs.SshSignatureFormats.{ssh_signature_value_at};
 
 pub use sshkey_authorized_keys::laws::equal_authorized_keys;
 pub use sshkey_authorized_keys::laws::equal_config_opts;

@@ -1,6 +1,6 @@
 -- What an entry of authorized_keys means, and when a line is read after options.
 use Rattle.std.specs.Prelude.{ℕ, List, ◌≤◌, count_by, ◌≡◌, ◌<◌, ◌∷◌, ◌++◌, ◌⊎◌, Bool, false, Result, Ok, Err, IsTrue}
-use Rattle.sshkey_keys.specs.Comparisons.{HasForm}
+use Rattle.sshkey_keys.specs.Keys.{HasForm}
 use Rattle.sshkey_public.specs.PublicKeys.{data_of, public_of, comment_of}
 use Rattle.sshkey_public.specs.declared.public_key.PublicKey.{PublicKey}
 use Rattle.sshkey_entries.specs.AuthorizedKeys.{AuthorizedKey, is_space, IsAuthorizedKey, authorized_text, AreOptionCharacters}

@@ -1,7 +1,7 @@
 -- What an entry means that is read as sshd(8) reads it.
 use Rattle.std.specs.Prelude.{ℕ, List, ◌≡◌, ◌≢◌, ◌++◌, length, slice_index, Bool, true, false, Option, Some, None, ◌⊎◌, Result, Ok, Err}
 use Rattle.sshkey_public.specs.PublicKeys.{data_of, public_of, comment_of}
-use Rattle.sshkey_keys.specs.Comparisons.{HasForm}
+use Rattle.sshkey_keys.specs.Keys.{HasForm}
 use Rattle.sshkey_public.specs.declared.public_key.PublicKey.{PublicKey}
 use Rattle.sshkey_entries.specs.AuthorizedKeys.{AuthorizedKey}
 use Rattle.sshkey_authorized_keys.specs.declared.openssh.OpenSshEntry.{OpenSshEntry}

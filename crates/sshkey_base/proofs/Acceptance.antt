@@ -1,13 +1,12 @@
 -- Refusals that are not for memory.
 use Rattle.std.proofs.Common.{◌≡◌, ◌≢◌, ℕ, List, refl}
 use Rattle.sshkey_base.specs.Causes.{NoMemory, cause, inner_cause}
-use Rattle.sshkey_base.specs.Reading.{NoSpelling}
-use Rattle.sshkey_base.specs.Source.{IsSound, all_of}
+use Rattle.sshkey_base.specs.Reading.{NoSpelling, IsSound, all_of}
 use Rattle.sshkey_base.specs.declared.encoding.Error as encoding-error
 use Rattle.sshkey_base.specs.declared.encoding.Error.TheVariants as encoding
 use Rattle.sshkey_base.specs.declared.error.Error.{Error}
 use Rattle.sshkey_base.specs.declared.error.Error.TheVariants as wide
-use Rattle.sshkey_base.specs.Acceptance.{SpellsSome}
+use Rattle.sshkey_base.specs.Judgements.{SpellsSome}
 
 never_inner : (e : encoding-error.Error) → inner_cause e ≡ NoMemory → ⊥
 never_inner encoding.Memory is = cc

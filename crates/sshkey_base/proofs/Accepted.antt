@@ -13,9 +13,8 @@ use Rattle.sshkey_base.specs.declared.encoding.Error.TheVariants as encoding
 use Rattle.sshkey_base.specs.Causes.{Cause, NoMemory, encoding_cause}
 use Rattle.sshkey_base.specs.Formats.{Begins, AcceptsBeginning}
 use Rattle.sshkey_model.specs.Formats.{Format, IsFormat}
-use Rattle.sshkey_base.specs.Source.{Source, announced_len}
+use Rattle.sshkey_base.specs.Reading.{Source, announced_len, Gives, GivesWhole, Reads, IsRefused, AcceptsFront, AcceptsWhole}
 use Rattle.sshkey_base.specs.Laws.{OneBeginning}
-use Rattle.sshkey_base.specs.Reading.{Gives, GivesWhole, Reads, IsRefused, AcceptsFront, AcceptsWhole}
 
 -- what begins with a value is read as that value
 pub read_of_beginning : {Y : Type 0} (f : Format Y) → IsFormat f → (y : Y) (bytes rest : List ℕ) → Begins f y bytes rest → f.read bytes ≡ Ok (y, rest)

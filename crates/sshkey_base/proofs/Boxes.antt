@@ -10,16 +10,13 @@ use Rattle.sshkey_model.specs.Reading.{Length, TrailingData, ◌>>=◌, Front, e
 use Rattle.sshkey_base.specs.declared.encoding.Error.{Error}
 use Rattle.sshkey_base.specs.declared.encoding.Error.TheVariants as encoding
 use Rattle.sshkey_base.specs.Causes.{Cause, NoMemory, Faulty, encoding_cause}
-use Rattle.sshkey_base.specs.Source.{Outer, Source, IsSound, announced_len, part}
-use Rattle.sshkey_base.specs.Reading.{Reads, Refuses, IsRefused, Gives, GivesAlways}
-use Rattle.sshkey_base.specs.Needs.{Asks}
+use Rattle.sshkey_base.specs.Reading.{Outer, Source, IsSound, announced_len, part, Reads, Refuses, IsRefused, Gives, GivesAlways, Asks}
 use Rattle.sshkey_model.specs.Needs.{HasString, NeedsBoxed}
-use Rattle.sshkey_base.specs.Stops.{RanOut, Stopped, StopsBy, StopsToEnd}
+use Rattle.sshkey_base.specs.Formats.{RanOut, Stopped, StopsBy, StopsToEnd}
 use Rattle.sshkey_model.specs.Overruns.{OverrunsString, OverrunsBoxed, AreLengths}
 use Rattle.sshkey_base.specs.Nested.{ReadsBy, AsksBy, Calls, Past, Trails, Finishes, NoLength, Prefixed}
-use Rattle.sshkey_base.proofs.Judging.{only_memory}
+use Rattle.sshkey_base.proofs.Steps.{only_memory, never_asks, refuses_first, refuses_sound, gives_sound}
 use Rattle.sshkey_base.proofs.Stopping.{passes, step_ok, not_taken, refused_stopped}
-use Rattle.sshkey_base.proofs.Steps.{never_asks, refuses_first, refuses_sound, gives_sound}
 
 -- the head of the readers around, apart from where it lies
 same_outer : (a b : Outer) (xs ys : List Outer) → a ∷ xs ≡ b ∷ ys → (a ≡ b) × (xs ≡ ys)

@@ -4,12 +4,11 @@ use Rattle.std.proofs.lemmas.Bool.{cases_lt, lt-ltb}
 use denote.Ref.{MutBor}
 use denote.Param.Members.{Once}
 use Rattle.sshkey_base.specs.Causes.{Cause, NoMemory, Faulty, encoding_cause}
-use Rattle.sshkey_base.specs.Formats.{Stops}
+use Rattle.sshkey_base.specs.Formats.{Stops, RanOut, Stopped, StopsBy, StopsPast, StopsToEnd}
 use Rattle.sshkey_model.specs.Formats.{Format, IsFormat}
 use Rattle.sshkey_model.specs.Needs.{NeedsBoxed, HasString}
 use Rattle.sshkey_base.specs.Nested.{AsksBy, Calls, Prefixed, ReadsBy}
-use Rattle.sshkey_base.specs.Source.{Source, part}
-use Rattle.sshkey_base.specs.Stops.{RanOut, Stopped, StopsBy, StopsPast, StopsToEnd}
+use Rattle.sshkey_base.specs.Reading.{Source, part}
 use Rattle.sshkey_model.specs.Overruns.{AreLengths, OverrunsBoxed}
 use Rattle.sshkey_model.specs.Reading.{Front, Length, box_at, whole}
 use Rattle.sshkey_base.specs.declared.encoding.Error.{Error}

@@ -15,11 +15,10 @@ use Rattle.sshkey_base.proofs.Steps.{few_refused, front_reads, refuses_first}
 use Rattle.sshkey_base.specs.declared.encoding.Error.{Error}
 use Rattle.sshkey_base.specs.declared.error.Error.{Error as WideError}
 use Rattle.sshkey_base.specs.Causes.{Cause, cause, encoding_cause}
-use Rattle.sshkey_base.specs.Source.{Source, Advances, TooFew, announced_len}
-use Rattle.sshkey_base.specs.Reading.{Reads, Refuses, GivesAlways}
+use Rattle.sshkey_base.specs.Reading.{Source, Advances, TooFew, announced_len, Reads, Refuses, GivesAlways}
 use Rattle.sshkey_base.specs.FixedWidth.{fixed_from, fixed_step, fixed_at, LengthIs}
 use Rattle.sshkey_model.specs.Needs.{NoNeed}
-use Rattle.sshkey_base.specs.Stops.{StopsBy}
+use Rattle.sshkey_base.specs.Formats.{StopsBy}
 use Rattle.sshkey_model.specs.Overruns.{OverrunsString}
 use Rattle.sshkey_base.proofs.Stopping.{passes, refused_stopped}
 

@@ -9,9 +9,8 @@ use Rattle.sshkey_model.specs.Reading.{Fault, Label, Front, Whole, checked_at}
 use Rattle.sshkey_model.specs.Grammar.{Checks}
 use Rattle.sshkey_base.specs.declared.encoding.Error.{Error}
 use Rattle.sshkey_base.specs.Causes.{encoding_cause}
-use Rattle.sshkey_base.specs.Source.{Source}
-use Rattle.sshkey_base.specs.Reading.{Reads, Gives}
-use Rattle.sshkey_base.specs.Labels.{LooksUp}
+use Rattle.sshkey_base.specs.Reading.{Source, Reads, Gives}
+use Rattle.sshkey_base.specs.Names.{LooksUp}
 
 -- a test of each byte, and what it says
 pub ascii : (b : List ℕ) → are_ascii b ≡ true → IsAscii b

@@ -6,8 +6,7 @@ use Rattle.std.proofs.lemmas.Bool.{le-ltb, and_parts}
 use Rattle.std.proofs.lemmas.List.{length-append, length-take, length-take-le, take-append-drop, take_at, drop_at}
 use Rattle.sshkey_model.specs.Parts.{are_bytes}
 use Rattle.sshkey_model.specs.Reading.{Fault, Length, bytes_at, checked_at}
-use Rattle.sshkey_base.specs.Source.{Source, Advances, Later, part, after, all_of}
-use Rattle.sshkey_base.specs.Reading.{Reads}
+use Rattle.sshkey_base.specs.Reading.{Source, Advances, Later, part, after, all_of, Reads}
 use Rattle.sshkey_model.specs.ShortStrings.{at_most}
 use Rattle.sshkey_base.proofs.Places.{part_later}
 use Rattle.sshkey_base.proofs.ShortStrings.{short_reads}

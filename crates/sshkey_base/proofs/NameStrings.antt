@@ -10,22 +10,18 @@ use Rattle.sshkey_model.specs.Grammar.{Checks}
 use Rattle.sshkey_model.proofs.CombinedReaders.{chosen}
 use Rattle.sshkey_base.specs.declared.encoding.Error.{Error}
 use Rattle.sshkey_base.specs.declared.short_bytes.ShortBytes.{ShortBytes}
-use Rattle.sshkey_base.specs.Answers.{Names}
+use Rattle.sshkey_base.specs.Judgements.{Names}
 use Rattle.sshkey_base.specs.Causes.{Cause, NoMemory, Faulty, encoding_cause}
-use Rattle.sshkey_base.specs.Labels.{AsksNamed, LooksUp, NeedsAfter}
-use Rattle.sshkey_base.specs.NameBytes.{not_too_long, name_of, name_at, passed_at}
-use Rattle.sshkey_base.specs.Needs.{Asks}
-use Rattle.sshkey_base.specs.Reading.{Reads, Refuses, IsRefused, Gives}
-use Rattle.sshkey_base.specs.ShortBytes.{short_of}
-use Rattle.sshkey_base.specs.Source.{Source, IsSound, Advances, TooFew}
+use Rattle.sshkey_base.specs.Names.{AsksNamed, LooksUp, NeedsAfter, not_too_long, name_of, name_at, passed_at}
+use Rattle.sshkey_base.specs.Reading.{Asks, Reads, Refuses, IsRefused, Gives, Source, IsSound, Advances, TooFew}
+use Rattle.sshkey_base.specs.Values.{short_of}
 use Rattle.sshkey_base.proofs.Labels.{same_bytes}
 use Rattle.sshkey_base.proofs.Lengths.{bytes_lengths}
-use Rattle.sshkey_base.specs.Stops.{Stopped, StopsBy}
+use Rattle.sshkey_base.specs.Formats.{Stopped, StopsBy}
 use Rattle.sshkey_model.specs.Overruns.{OverrunsBytes}
-use Rattle.sshkey_base.proofs.Judging.{only_memory}
+use Rattle.sshkey_base.proofs.Steps.{only_memory, few_refused, front_reads, refuses_first}
 use Rattle.sshkey_base.proofs.Stopping.{not_taken, read_past}
 use Rattle.sshkey_base.proofs.Places.{advances_both}
-use Rattle.sshkey_base.proofs.Steps.{few_refused, front_reads, refuses_first}
 
 -- ---- what is read of them
 

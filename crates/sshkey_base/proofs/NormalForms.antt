@@ -1,14 +1,37 @@
--- What is written of a value is one of its spellings.
+-- A count in four bytes is one of its spellings, where it fits.
+use Rattle.std.proofs.Common.{◌≡◌, ◌<◌, ◌≤◌, ◌^◌, ℕ, arith, inl, inr, refl}
+use Rattle.std.proofs.lemmas.Bool.{cases_lt, lt-ltb, le-ltb}
+use Rattle.std.proofs.lemmas.List.{length-replicate}
+use Rattle.std.specs.Int.{w32}
+use Rattle.sshkey_model.specs.Parts.{Any, number, flat, Fits, BoxesFit}
+use Rattle.sshkey_model.specs.Grammar.{normal_is_spelling}
+use Rattle.sshkey_model.specs.Leaves.{SpellsNumber32, count}
 use Rattle.std.specs.Prelude.{List, [], ◌∷◌, map, String, Vec, string_bytes}
 use Rattle.std.specs.List.{AllByRecursion}
 use Rattle.std.proofs.lemmas.Str.{is_utf8-from_IsUtf8, IsUtf8-string_bytes}
-use Rattle.sshkey_model.specs.Grammar.{normal_is_spelling}
-use Rattle.sshkey_model.specs.Parts.{Fits, flat}
 use Rattle.sshkey_model.specs.Texts.{string, texts, IsText, SpellsTexts, SpellsText}
 use Rattle.sshkey_base.specs.declared.mpint.Mpint.{Mpint}
 use Rattle.sshkey_model.specs.Mpints.{SpellsMpint}
-use Rattle.sshkey_base.specs.Mpint.{mpint_of}
-use Rattle.sshkey_base.specs.TextLists.{texts_of}
+use Rattle.sshkey_base.specs.Values.{mpint_of, texts_of}
+
+pub count_is : (n : ℕ) → n < 2 ^ 32 → count n ≡ number w32 n
+unfolding count
+count_is n lt = rw (lt-ltb n (2 ^ 32) lt) refl
+
+pub count_misfit : (n : ℕ) → 2 ^ 32 ≤ n → BoxesFit (count n) → ⊥
+unfolding count BoxesFit flat
+count_misfit n ge fits =
+    let f = rw (le-ltb n (2 ^ 32) ge) at fits in
+    absurd (omega (arith, f.0, length-replicate {A = ℕ} n 0))
+
+pub count_normal : (n : ℕ) → Any n → Fits (count n) → SpellsNumber32 n (flat (count n))
+count_normal n is fits =
+    elim (cases_lt n (2 ^ 32)) [
+      | inl lt ↦ rw (count_is n lt) (normal_is_spelling n is (rw (count_is n lt) at fits))
+      | inr ge ↦ absurd (count_misfit n ge fits.boxes)
+    ]
+
+-- What is written of a value is one of its spellings.
 
 -- its bytes are a number's
 pub mpint_normal : (m : Mpint) → Unit {0} → Fits (string (mpint_of m)) → SpellsMpint (mpint_of m) (flat (string (mpint_of m)))

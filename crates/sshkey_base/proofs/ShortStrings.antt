@@ -5,8 +5,7 @@ use Rattle.std.proofs.lemmas.List.{length-take-le}
 use Rattle.sshkey_model.specs.Parts.{are_bytes}
 use Rattle.sshkey_model.specs.Reading.{Fault, Length, Front, bytes_at, checked_at}
 use Rattle.sshkey_base.specs.Causes.{Faulty}
-use Rattle.sshkey_base.specs.Source.{Source}
-use Rattle.sshkey_base.specs.Reading.{Reads, Refuses}
+use Rattle.sshkey_base.specs.Reading.{Source, Reads, Refuses}
 use Rattle.sshkey_model.specs.ShortStrings.{at_most}
 
 -- more bytes than may be are `Length`, whether they are there or not

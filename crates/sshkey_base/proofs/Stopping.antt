@@ -2,14 +2,13 @@
 use Rattle.std.proofs.Common.{◌≡◌, inl, inr, ◌<◌, ℕ, List, IsOk, Result, Ok, Err, refl}
 use Rattle.std.specs.Int.{w32}
 use Rattle.sshkey_model.specs.Reading.{Fault, Length, ◌>>=◌, Front, number_at, bytes_at, string_at, checked_at}
-use Rattle.sshkey_base.specs.Answers.{AnswersAlways}
+use Rattle.sshkey_base.specs.Judgements.{AnswersAlways}
 use Rattle.sshkey_base.specs.Causes.{Cause, Faulty}
-use Rattle.sshkey_base.specs.Source.{Source, announced_len}
+use Rattle.sshkey_base.specs.Reading.{Source, announced_len, Reads, Refuses, GivesAlways}
 use Rattle.sshkey_model.specs.Needs.{NeedsString, NeedsBytes}
-use Rattle.sshkey_base.specs.Reading.{Reads, Refuses, GivesAlways}
-use Rattle.sshkey_base.specs.Labels.{NeedsAfter}
+use Rattle.sshkey_base.specs.Names.{NeedsAfter}
 use Rattle.sshkey_base.proofs.Lengths.{string_lengths}
-use Rattle.sshkey_base.specs.Stops.{RanOut, Stopped, StopsBy}
+use Rattle.sshkey_base.specs.Formats.{RanOut, Stopped, StopsBy}
 use Rattle.sshkey_model.specs.Overruns.{NoOverrun, OverrunsString, OverrunsBytes, AreLengths}
 
 -- a step before one that was done

@@ -1,16 +1,17 @@
 -- The steps of a writing function.
-use Rattle.std.proofs.Common.{◌≡◌, ℕ, ◌+◌, ◌<◌, ◌≤◌, ◌^◌, List, [], ◌++◌, length, take, take_all, Option, Some, None, Result, Ok, Err, refl, sym, ap, ◌∙◌, append_assoc, arith, inl, inr}
+use Rattle.std.proofs.Common.{◌≡◌, ℕ, ◌+◌, ◌<◌, ◌≤◌, ◌^◌, List, [], ◌++◌, length, take, take_all, Option, Some, None, Result, Ok, Err, refl, sym, ap, ◌∙◌, append_assoc, arith, inl, inr, true, IsErrAnd}
 use Rattle.std.specs.Prelude.{IfSome}
 use Rattle.std.specs.Int.{Width, w8, w32, w64, to_be_bytes}
 use Rattle.std.proofs.lemmas.List.{length-append, append-nil, take-append-le}
 use Rattle.std.proofs.lemmas.Bool.{cases_lt}
 use Rattle.std.proofs.Math.Seq.{take-append-add}
 use mir.Val.{bits}
-use Rattle.sshkey_model.specs.Parts.{Parts, bytes, number, box, ◌&◌, flat, BoxesFit}
+use Rattle.sshkey_model.specs.Parts.{Parts, bytes, number, box, ◌&◌, flat, BoxesFit, are_bytes}
 use Rattle.sshkey_model.proofs.CombinedReaders.{fits_both, fits_box, fits_bytes, fits_number}
 use Rattle.sshkey_base.specs.declared.encoding.Error.{Error}
 use Rattle.sshkey_base.specs.declared.encoding.Error.TheVariants.{Length, Memory}
-use Rattle.sshkey_base.specs.Sink.{Sink, WrotePrefix, Stopped, Writes, Written, after, NotWritten, Encodes}
+use Rattle.sshkey_base.specs.Sink.{Sink, WrotePrefix, Stopped, Writes, Written, after, NotWritten, Encodes, Measures}
+use Rattle.sshkey_model.specs.Texts.{string}
 
 -- nothing was added
 pub wrote_none : (s t : Sink) (b : List ℕ) → t.written ≡ s.written → t.limit ≡ s.limit → WrotePrefix s b t
@@ -212,3 +213,37 @@ vector_refused p s t e b h =
       | inl l ↦ absurd (l.misfit b)
       | inr o ↦ (b, o.own)
     ]
+
+-- Two or three parts in a row: whether they fit, and how many bytes they have.
+
+pub three : (p q r : Parts) (n m k : ℕ) → BoxesFit p × (n ≡ length (flat p)) → BoxesFit q × (m ≡ length (flat q)) → BoxesFit r × (k ≡ length (flat r)) → BoxesFit (p & q & r) × (n + m + k ≡ length (flat (p & q & r)))
+three p q r n m k a b c = (boxes_both p (q & r) a.0 (boxes_both q r b.0 c.0), omega (arith, length_both p (q & r), length_both q r, a.1, b.1, c.1))
+
+pub third_misfit : (p q r : Parts) → (BoxesFit r → ⊥) → BoxesFit (p & q & r) → ⊥
+third_misfit p q r misfit b = misfit (boxes_second q r (boxes_second p (q & r) b))
+
+pub two : (p q : Parts) (n m : ℕ) → BoxesFit p × (n ≡ length (flat p)) → BoxesFit q × (m ≡ length (flat q)) → BoxesFit (p & q) × (n + m ≡ length (flat (p & q)))
+two p q n m a b = (boxes_both p q a.0 b.0, omega (arith, length_both p q, a.1, b.1))
+
+-- A string whose length and bytes are written at once.
+
+pub whole_string : (fault : Error → Type 0) (n b : List ℕ) (s t : Sink) (r : Result (Unit {0}) Error) → b ≡ to_be_bytes w32 (length n) ++ n → length n < 2 ^ 32 → are_bytes n ≡ true → Writes fault s b r t → Encodes fault (string n) s r t
+unfolding flat NotWritten after
+whole_string fault n b s t (Ok x) is short are h =
+    let written : t.written ≡ s.written ++ flat (string n) = h.added ∙ ap (λ (l : List ℕ). s.written ++ l) is in
+    (fits_box (bytes n) short (fits_bytes n are), rw (← written, ← h.limit) refl)
+whole_string fault n b s t (Err e) is short are h = inr (rw is at h)
+
+-- How many bytes parts have, one after the other.
+
+-- They have `n` bytes, and no box is too long.
+abbrev pub Has : Parts → ℕ → Type 0
+Has p n = BoxesFit p × (n ≡ length (flat p))
+
+pub both_have : (p q : Parts) (m n : ℕ) → Has p m → Has q n → Has (p & q) (m + n)
+unfolding flat BoxesFit
+both_have p q m n a b = ((a.0, b.0), omega (arith, length-append (flat p) (flat q), a.1, b.1))
+
+pub refused_measure : (p : Parts) (e : Error) (r : Result ℕ Error) → IsErrAnd r (λ x. x ≡ e) → (BoxesFit p → ⊥) → e ≡ Length → Measures p r
+refused_measure p e (Ok n) is none long = absurd is
+refused_measure p e (Err x) is none long = (none, is ∙ long)

@@ -8,6 +8,7 @@ use Rattle.sshkey_base.specs.declared.encoding.Error as encoding-error
 use Rattle.sshkey_base.specs.declared.encoding.Error.TheVariants as encoding
 use Rattle.sshkey_base.specs.declared.error.Error as wide-error
 use Rattle.sshkey_base.specs.declared.error.Error.TheVariants as wide
+use Rattle.sshkey_base.specs.declared.error.Error.{Error}
 
 -- Memory was refused, the bytes have a fault, or the source or the machine has one of its own.
 pub data Cause : Type 0 where
@@ -62,3 +63,11 @@ of_machine k = wide.Io k
 pub same_cause : (e : encoding-error.Error) → cause (widened e) ≡ encoding_cause e
 same_cause encoding.Memory = refl
 same_cause _ = refl
+
+-- Faults of the machine.
+
+-- out of memory, or a fault of what is read or written
+abbrev pub IsMachineFault : Error → Type 0
+IsMachineFault wide.Memory = Unit {0}
+IsMachineFault (wide.Io kind) = Unit {0}
+IsMachineFault _ = ⊥

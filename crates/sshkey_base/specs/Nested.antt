@@ -8,9 +8,7 @@ use Rattle.sshkey_base.specs.declared.encoding.Error.{Error}
 use Rattle.sshkey_base.specs.declared.encoding.Error.TheVariants.{Length, TrailingData}
 use Rattle.sshkey_base.specs.declared.reader.NestedReader.{NestedReader}
 use Rattle.sshkey_base.specs.Causes.{Cause, encoding_cause}
-use Rattle.sshkey_base.specs.Source.{Source, Later, part, announced_len}
-use Rattle.sshkey_base.specs.Needs.{Asks}
-use Rattle.sshkey_base.specs.Reading.{Gives, Reads, Refuses}
+use Rattle.sshkey_base.specs.Reading.{Source, Later, part, announced_len, Asks, Gives, Reads, Refuses}
 
 -- what a nested reader has before it
 abbrev pub nested_source : {R : Type 0} → (R → Source) → NestedReader R → Source

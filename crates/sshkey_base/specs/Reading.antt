@@ -1,10 +1,75 @@
--- What a reading call gives, measured by a plain reader on lists, and in the words of the grammar.
-use Rattle.std.specs.Prelude.{◌≡◌, ◌≢◌, ℕ, IsErrAnd, List, Result, Ok, Err, ◌++◌}
-use Rattle.sshkey_model.specs.Reading.{Fault, Front, Whole}
+-- What a reader has before it.
+use Rattle.std.specs.Prelude.{◌≡◌, ℕ, ◌+◌, ◌-◌, ◌<◌, List, [], ◌∷◌, ◌++◌, length, take, drop, true, Result, Ok, Err, ◌≢◌, IsErrAnd}
+use Rattle.sshkey_model.specs.Parts.{are_bytes}
 use Rattle.sshkey_base.specs.declared.encoding.Error.{Error}
+use Rattle.sshkey_base.specs.declared.encoding.Error.TheVariants.{Length}
+use Rattle.sshkey_model.specs.Reading.{Fault, Front, Whole}
 use Rattle.sshkey_base.specs.declared.error.Error as wide
 use Rattle.sshkey_base.specs.Causes.{Cause, NoMemory, Faulty, encoding_cause, cause}
-use Rattle.sshkey_base.specs.Source.{Source, IsSound}
+
+-- A reader while a part of it is read: its name, the bytes after that part, and how many it lacks.
+pub record Outer : Type 0 where
+  pub name : ℕ
+  pub rest : List ℕ
+  pub missing : ℕ
+
+-- The bytes left before the end or the fault, how many more were announced and cannot be read, and
+-- the readers around this one.
+pub record Source : Type 0 where
+  pub left : List ℕ
+  pub missing : ℕ
+  pub outer : List Outer
+
+-- all of some bytes
+abbrev pub all_of : List ℕ → Source
+all_of b = record { left = b; missing = 0; outer = [] }
+
+-- All that was announced can be read.
+abbrev pub IsSound : Source → Type 0
+IsSound s = s.missing ≡ 0
+
+-- what `remaining_len` answers
+abbrev pub announced_len : Source → ℕ
+announced_len s = length s.left + s.missing
+
+-- The bytes were taken from the front, and nothing else changed.
+pub record Advances (s : Source) (bytes : List ℕ) (t : Source) : Type 0 where
+  pub taken : s.left ≡ bytes ++ t.left
+  pub missing : t.missing ≡ s.missing
+  pub outer : t.outer ≡ s.outer
+  pub are : are_bytes bytes ≡ true
+
+-- Too few bytes are left, which a sound source says by `Length`.
+pub record TooFew (s : Source) (count : ℕ) (e : Error) : Type 0 where
+  pub few : length s.left < count
+  pub sound : IsSound s → e ≡ Length
+
+-- The same source, at the same place or at a later one: some bytes were passed, and nothing else
+-- changed.
+pub record Later (s t : Source) : Type 0 where
+  pub passed : List ℕ
+  pub left : s.left ≡ passed ++ t.left
+  pub missing : t.missing ≡ s.missing
+  pub outer : t.outer ≡ s.outer
+
+-- The source after its next `n` bytes.
+abbrev pub after : ℕ → Source → Source
+after n s = record { left = drop n s.left; missing = s.missing; outer = s.outer }
+
+-- a call that takes as many bytes as it is given
+abbrev pub Takes : Source → List ℕ → Result (Unit {0}) Error → Source → Type 0
+Takes s bytes (Ok _) t = Advances s bytes t
+Takes s bytes (Err e) t = TooFew s (length bytes) e
+
+-- The next n bytes of a reader as a reader of their own.
+abbrev pub part : ℕ → ℕ → Source → Source
+part name n s = record {
+  left = take n s.left;
+  missing = n - length s.left;
+  outer = record { name = name; rest = drop n s.left; missing = s.missing } ∷ s.outer;
+}
+
+-- What a reading call gives, measured by a plain reader on lists, and in the words of the grammar.
 
 -- What was read is what the plain reader gives of the bytes that were left, the rest is left, and
 -- nothing else changed.
@@ -92,3 +157,10 @@ NoSpelling {Y} Spells bytes = (y : Y) → Spells y bytes → ⊥
 abbrev pub AcceptsWhole : {X Y E : Type 0} → (X → Y) → (Y → List ℕ → Type 0) → (E → Cause) → Source → Result X E → Type 0
 AcceptsWhole means Spells cause s (Ok x) = SpelledWhole means Spells s x
 AcceptsWhole means Spells cause s (Err e) = cause e ≢ NoMemory → IsSound s → NoSpelling Spells s.left
+
+-- When a reading call may run out of memory.
+
+-- From a sound source memory was refused only where it is needed.
+abbrev pub Asks : {X E : Type 0} → (E → Cause) → (List ℕ → ℕ → Type 0) → Source → Result X E → Type 0
+Asks cause needs s (Ok x) = Unit {0}
+Asks cause needs s (Err e) = cause e ≡ NoMemory → IsSound s → needs s.left s.missing

@@ -5,9 +5,8 @@ ghost use Rattle.sshkey_model.specs.Names.{Dsa, Ed25519, algorithm_name, IsAlgor
 ghost use Rattle.sshkey_model.specs.Names as model;
 ghost use Rattle.sshkey_model.specs.Reading as fault;
 ghost use Rattle.sshkey_base.specs.Causes.{cause, encoding_cause};
-ghost use Rattle.sshkey_base.specs.Names.{IsFixed, is_ecdsa, is_rsa, algorithm_of};
-ghost use Rattle.sshkey_base.specs.Labels.{AsksNamed, LooksUp};
-ghost use Rattle.sshkey_base.specs.Answers.{Judges, Names};
+ghost use Rattle.sshkey_base.specs.Names.{IsFixed, is_ecdsa, is_rsa, algorithm_of, AsksNamed, LooksUp};
+ghost use Rattle.sshkey_base.specs.Judgements.{Judges, Names};
 ghost use Rattle.sshkey_base.specs.declared.encoding.Error.TheVariants as encoding;
 
 mod certificate_type;

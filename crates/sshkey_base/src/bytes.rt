@@ -3,13 +3,10 @@
 ghost use Rattle.std.specs.Prelude.{◌≡◌, ℕ, List, IfOk, IfErr, length, replicate};
 ghost use Rattle.sshkey_model.specs.Reading.{bytes_at, string_at};
 ghost use Rattle.sshkey_base.specs.Causes.{encoding_cause};
-ghost use Rattle.sshkey_base.specs.Formats.{Stops};
+ghost use Rattle.sshkey_base.specs.Formats.{Stops, StopsBy};
 ghost use Rattle.sshkey_model.specs.Leaves.{string_format};
-ghost use Rattle.sshkey_base.specs.Needs.{Asks};
+ghost use Rattle.sshkey_base.specs.Reading.{Asks, Decodes, Later};
 ghost use Rattle.sshkey_model.specs.Needs.{NeedsBytes, NeedsString};
-ghost use Rattle.sshkey_base.specs.Reading.{Decodes};
-ghost use Rattle.sshkey_base.specs.Source.{Later};
-ghost use Rattle.sshkey_base.specs.Stops.{StopsBy};
 ghost use Rattle.sshkey_model.specs.Overruns.{OverrunsBytes};
 
 mod compare;

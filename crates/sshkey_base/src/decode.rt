@@ -3,18 +3,15 @@
 ghost use Rattle.std.specs.Prelude.{ℕ, List};
 ghost use Rattle.std.specs.Int.{w8, w32, w64};
 ghost use Rattle.sshkey_model.specs.Reading.{whole, bytes_at, number_at, box_at};
-ghost use Rattle.sshkey_base.specs.Reading.{Decodes, DecodesAlways, AcceptsFront, AcceptsWhole, Gives, GivesWhole};
+ghost use Rattle.sshkey_base.specs.Reading.{Decodes, DecodesAlways, AcceptsFront, AcceptsWhole, Gives, GivesWhole, Asks, Later};
 ghost use Rattle.sshkey_model.specs.Grammar.{SpellsBoxed};
-ghost use Rattle.sshkey_base.specs.Formats.{AcceptsBeginning, Stops};
+ghost use Rattle.sshkey_base.specs.Formats.{AcceptsBeginning, Stops, StopsBy, StopsPast};
 ghost use Rattle.sshkey_model.specs.Formats.{Format, IsFormat};
 ghost use Rattle.sshkey_model.specs.Leaves.{byte_format, number32_format, number64_format, array_format};
-ghost use Rattle.sshkey_base.specs.Stops.{StopsBy, StopsPast};
 ghost use Rattle.sshkey_model.specs.Overruns.{OverrunsBoxed};
 ghost use Rattle.sshkey_base.specs.Causes.{encoding_cause};
 ghost use Rattle.sshkey_base.specs.Nested.{nested_source};
-ghost use Rattle.sshkey_base.specs.Needs.{Asks};
 ghost use Rattle.sshkey_model.specs.Needs.{NeedsBoxed, NoNeed};
-ghost use Rattle.sshkey_base.specs.Source.{Later};
 
 use crate::decode_error::DecodeError;
 use crate::encoding;

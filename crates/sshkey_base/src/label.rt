@@ -7,13 +7,11 @@ ghost use Rattle.sshkey_model.specs.Reading.{Fault, Whole, Label as label_fault,
 ghost use Rattle.sshkey_model.specs.Texts.{string};
 ghost use Rattle.sshkey_model.specs.Grammar.{Checks};
 ghost use Rattle.sshkey_base.specs.Causes.{encoding_cause};
-ghost use Rattle.sshkey_base.specs.Needs.{Asks};
+ghost use Rattle.sshkey_base.specs.Reading.{Asks, Decodes, Later};
 ghost use Rattle.sshkey_model.specs.Labels.{label_format, label_at};
-ghost use Rattle.sshkey_base.specs.Reading.{Decodes};
-ghost use Rattle.sshkey_base.specs.Source.{Later};
-ghost use Rattle.sshkey_base.specs.Stops.{StopsBy};
+ghost use Rattle.sshkey_base.specs.Formats.{StopsBy};
 ghost use Rattle.sshkey_model.specs.Overruns.{OverrunsBytes, OverrunsString};
-ghost use Rattle.sshkey_base.specs.Labels.{AsksNamed, LooksUp, NeedsAfter};
+ghost use Rattle.sshkey_base.specs.Names.{AsksNamed, LooksUp, NeedsAfter};
 
 use crate::decode::Decode;
 use crate::encode::{Encode, encode_string, string_len};

@@ -3,7 +3,7 @@
 
 ghost use Rattle.sshkey_base.specs.Comparisons.{IsEqualityOf, IsOrderOf};
 ghost use Rattle.sshkey_base.specs.Laws.{OneBeginning, ReadBackBeginning};
-ghost use Rattle.sshkey_base.specs.Mpint.{mpint_of};
+ghost use Rattle.sshkey_base.specs.Values.{mpint_of};
 
 mod errors;
 mod names;

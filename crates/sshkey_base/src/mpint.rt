@@ -37,9 +37,9 @@ pub struct Mpint {
 
 impl Mpint {
     ghost use Rattle.sshkey_model.specs.Mpints.{mpint_from, positive_part};
-    ghost use Rattle.sshkey_base.specs.Answers.{Answers, AnswersAlways, Judges};
+    ghost use Rattle.sshkey_base.specs.Judgements.{Answers, AnswersAlways, Judges};
     ghost use Rattle.sshkey_base.specs.Causes.{cause};
-    ghost use Rattle.sshkey_base.specs.Mpint.{mpint_of};
+    ghost use Rattle.sshkey_base.specs.Values.{mpint_of};
 
     /// Checks that the bytes are those of a number, in two's complement: `Ok` exactly if
     /// `from_bytes` with enough memory is, and otherwise fails with `FormatEncoding`. Does not
@@ -170,7 +170,7 @@ fn without_leading_zeros(bytes: &[u8]) -> &[u8]
 }
 
 impl AsSlice<u8> for Mpint {
-    ghost use Rattle.sshkey_base.specs.Mpint.{mpint_of};
+    ghost use Rattle.sshkey_base.specs.Values.{mpint_of};
 
     ghost items = { mpint_of };
 
@@ -181,7 +181,7 @@ impl AsSlice<u8> for Mpint {
 
 /// Two digits a byte, with small letters.
 impl fmt::LowerHex for Mpint {
-    ghost use Rattle.sshkey_base.specs.Mpint.{mpint_of};
+    ghost use Rattle.sshkey_base.specs.Values.{mpint_of};
 
     fn fmt<W: fmt::Write>(&self, f: &mut fmt::Formatter<W>) -> fmt::Result
         ensures writes { WritesOnOk W.write_str_gives f.old result
@@ -195,7 +195,7 @@ impl fmt::LowerHex for Mpint {
 
 /// Two digits a byte, with capital letters.
 impl fmt::UpperHex for Mpint {
-    ghost use Rattle.sshkey_base.specs.Mpint.{mpint_of};
+    ghost use Rattle.sshkey_base.specs.Values.{mpint_of};
 
     fn fmt<W: fmt::Write>(&self, f: &mut fmt::Formatter<W>) -> fmt::Result
         ensures writes { WritesOnOk W.write_str_gives f.old result
@@ -211,7 +211,7 @@ impl fmt::UpperHex for Mpint {
 impl fmt::Display for Mpint {
     ghost use Rattle.std.specs.Prelude.{Some};
     ghost use Rattle.hex.specs.Hex.{encode_upper};
-    ghost use Rattle.sshkey_base.specs.Mpint.{mpint_of};
+    ghost use Rattle.sshkey_base.specs.Values.{mpint_of};
 
     ghost output = { λ m. Some (encode_upper (mpint_of m)) };
 
@@ -230,13 +230,11 @@ impl fmt::Display for Mpint {
 impl Decode for Mpint {
     ghost use Rattle.std.specs.Prelude.{ℕ, List};
     ghost use Rattle.sshkey_base.specs.Causes.{cause};
-    ghost use Rattle.sshkey_base.specs.Mpint.{mpint_of};
+    ghost use Rattle.sshkey_base.specs.Values.{mpint_of};
     ghost use Rattle.sshkey_model.specs.Mpints.{mpint_at, mpint_format};
-    ghost use Rattle.sshkey_base.specs.Reading.{DecodesWide};
+    ghost use Rattle.sshkey_base.specs.Reading.{DecodesWide, Asks, Later};
     ghost use Rattle.sshkey_base.specs.Formats.{Stops};
-    ghost use Rattle.sshkey_base.specs.Needs.{Asks};
     ghost use Rattle.sshkey_model.specs.Needs.{NeedsString};
-    ghost use Rattle.sshkey_base.specs.Source.{Later};
 
     type Error = Error;
 
@@ -263,7 +261,7 @@ impl Decode for Mpint {
 impl Encode for Mpint {
     ghost use Rattle.std.specs.Prelude.{◌+◌, ◌^◌};
     ghost use Rattle.sshkey_model.specs.Texts.{string};
-    ghost use Rattle.sshkey_base.specs.Mpint.{mpint_of};
+    ghost use Rattle.sshkey_base.specs.Values.{mpint_of};
 
     ghost normal = { λ m. string (mpint_of m) };
 

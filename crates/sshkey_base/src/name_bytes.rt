@@ -1,9 +1,8 @@
 //! The bytes of names.
 
 ghost use Rattle.std.specs.Prelude.{◌≡◌, ◌<◌, Err};
-ghost use Rattle.sshkey_base.specs.NameBytes.{name_at, name_of, passed_at};
-ghost use Rattle.sshkey_base.specs.Reading.{DecodesAlways};
-ghost use Rattle.sshkey_base.specs.Source.{Later, announced_len};
+ghost use Rattle.sshkey_base.specs.Names.{name_at, name_of, passed_at};
+ghost use Rattle.sshkey_base.specs.Reading.{DecodesAlways, Later, announced_len};
 
 use crate::encoding::{Error, Result};
 use crate::reader::Reader;

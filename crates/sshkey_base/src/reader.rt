@@ -4,8 +4,7 @@ ghost use Rattle.std.specs.Prelude.{◌≡◌, ◌≤◌, ◌↔◌, IfSome, IsS
 ghost use Rattle.std.specs.Int.{w32};
 ghost use Rattle.sshkey_model.specs.Reading.{bytes_at, number_at};
 ghost use Rattle.sshkey_base.specs.Nested.{PassesBy, Prefixed, PastIs, nested_source};
-ghost use Rattle.sshkey_base.specs.Reading.{DecodesAlways, Reads};
-ghost use Rattle.sshkey_base.specs.Source.{Source, Later, Takes, all_of, after, announced_len};
+ghost use Rattle.sshkey_base.specs.Reading.{DecodesAlways, Reads, Source, Later, Takes, all_of, after, announced_len};
 
 use crate::encoding::{Error, Result};
 use std::fmt;

@@ -1,7 +1,7 @@
 //! Values that nobody else is to know.
 
 ghost use Rattle.std.specs.Prelude.{◌≡◌, ℕ, length, replicate};
-ghost use Rattle.sshkey_base.specs.Mpint.{mpint_of};
+ghost use Rattle.sshkey_base.specs.Values.{mpint_of};
 
 use crate::bytes::Bytes;
 use crate::decode::Decode;

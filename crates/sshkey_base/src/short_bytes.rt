@@ -5,10 +5,8 @@ ghost use Rattle.sshkey_model.specs.Reading.{bytes_at, checked_at};
 ghost use Rattle.sshkey_base.specs.Causes.{encoding_cause};
 ghost use Rattle.sshkey_base.specs.Formats.{Stops};
 ghost use Rattle.sshkey_model.specs.ShortStrings.{short_format, at_most, short_at};
-ghost use Rattle.sshkey_base.specs.Needs.{Asks};
+ghost use Rattle.sshkey_base.specs.Reading.{Asks, Decodes, DecodesAlways, GivesAlways, Reads, Later, after, announced_len};
 ghost use Rattle.sshkey_model.specs.Needs.{NoNeed};
-ghost use Rattle.sshkey_base.specs.Reading.{Decodes, DecodesAlways, GivesAlways, Reads};
-ghost use Rattle.sshkey_base.specs.Source.{Later, after, announced_len};
 
 use crate::decode::Decode;
 use crate::encoding::{Error, Result};
@@ -25,7 +23,7 @@ pub struct ShortBytes<const MAX: usize> {
 
 impl<const MAX: usize> ShortBytes<MAX> {
     ghost use Rattle.std.specs.Prelude.{◌≡◌};
-    ghost use Rattle.sshkey_base.specs.ShortBytes.{short_of};
+    ghost use Rattle.sshkey_base.specs.Values.{short_of};
 
     /// The bytes.
     pub fn as_slice(&self) -> &[u8]
@@ -74,7 +72,7 @@ impl<const MAX: usize> ShortBytes<MAX> {
 /// allocate.
 #[tactic(auto, using(crate::proofs::Lawful::short_lawful, crate::proofs::Steps::steps, crate::proofs::Stopping::stopping), unfolding(sshkey_model::specs::ShortStrings::short_at, sshkey_model::specs::Reading::string_at))]
 impl<const MAX: usize> Decode for ShortBytes<MAX> {
-    ghost use Rattle.sshkey_base.specs.ShortBytes.{short_of};
+    ghost use Rattle.sshkey_base.specs.Values.{short_of};
 
     type Error = Error;
 

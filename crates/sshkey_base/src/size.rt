@@ -6,11 +6,9 @@ ghost use Rattle.sshkey_model.specs.Reading.{number_at};
 ghost use Rattle.sshkey_base.specs.Causes.{encoding_cause};
 ghost use Rattle.sshkey_model.specs.Leaves.{count, number32_format};
 ghost use Rattle.sshkey_base.specs.Formats.{Stops};
-ghost use Rattle.sshkey_base.specs.Needs.{Asks};
+ghost use Rattle.sshkey_base.specs.Reading.{Asks, Decodes, DecodesAlways, Later};
 ghost use Rattle.sshkey_model.specs.Needs.{NoNeed};
-ghost use Rattle.sshkey_base.specs.Reading.{Decodes, DecodesAlways};
 ghost use Rattle.sshkey_base.specs.Sink.{Encodes};
-ghost use Rattle.sshkey_base.specs.Source.{Later};
 
 use crate::decode::Decode;
 use crate::encode::{Encode, u32_of};

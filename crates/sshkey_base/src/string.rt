@@ -4,10 +4,8 @@ ghost use Rattle.std.specs.Prelude.{ℕ, ◌+◌, ◌^◌, List, string_bytes};
 ghost use Rattle.sshkey_model.specs.Texts.{string, text_format};
 ghost use Rattle.sshkey_base.specs.Causes.{encoding_cause};
 ghost use Rattle.sshkey_base.specs.Formats.{Stops};
-ghost use Rattle.sshkey_base.specs.Needs.{Asks};
+ghost use Rattle.sshkey_base.specs.Reading.{Asks, Decodes, Later};
 ghost use Rattle.sshkey_model.specs.Needs.{NeedsString};
-ghost use Rattle.sshkey_base.specs.Reading.{Decodes};
-ghost use Rattle.sshkey_base.specs.Source.{Later};
 ghost use Rattle.sshkey_model.specs.Texts.{text_at};
 
 use crate::decode::Decode;

@@ -5,8 +5,7 @@ use Rattle.std.specs.Prelude.{MatchOption, codes}
 use Rattle.sshkey_model.specs.Lines.{IsWithout}
 use Rattle.sshkey_model.proofs.Base64Words.{one_blob}
 use Rattle.sshkey_model.proofs.LineCuts.{one_front}
-use Rattle.sshkey_base64.specs.Armour.{Encloses, IsArmour, IsBase64, IsLineEnd, dash, first_line, last_line}
-use Rattle.sshkey_base64.specs.ArmourReading.{CutsBeforeDash, FollowsLineEnd, HasOtherBody}
+use Rattle.sshkey_base64.specs.Armour.{Encloses, IsArmour, IsBase64, IsLineEnd, dash, first_line, last_line, CutsBeforeDash, FollowsLineEnd, HasOtherBody}
 use denote.Ref.{Bor}
 
 -- ---- where dashes stand

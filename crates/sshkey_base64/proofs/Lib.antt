@@ -1,9 +1,8 @@
 pub mod GoodBytes
 pub mod WordSources
 pub mod Symbols
-pub mod Spreading
+pub mod Encoding
 pub mod Walks
-pub mod Pieces
 pub mod Windows
 pub mod ArmourBodies
 mod ArmourWorked

@@ -10,7 +10,7 @@ use Rattle.base64.specs.declared.decode.DecodeError.{DecodeError}
 use Rattle.base64.proofs.EngineFacts.{decode_of-encode_of, decode_of_strict, encode_of-append, encode_of-nil}
 use Rattle.sshkey_model.specs.Parts.{are_bytes}
 use Rattle.sshkey_model.proofs.CombinedReaders.{bytes_fit}
-use Rattle.sshkey_base.specs.Source.{Source, Advances, Later, TooFew, Takes, announced_len}
+use Rattle.sshkey_base.specs.Reading.{Source, Advances, Later, TooFew, Takes, announced_len}
 use Rattle.sshkey_base.proofs.Places.{later_then, later_advanced, advances_both}
 use Rattle.sshkey_base.specs.declared.encoding.Error.{Error}
 use Rattle.sshkey_base.specs.declared.encoding.Error.TheVariants as encoding

@@ -1,4 +1,3 @@
 pub mod Words64
 pub mod Armour
-pub mod ArmourReading
 pub mod ArmourExamples

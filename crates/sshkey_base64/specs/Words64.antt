@@ -3,7 +3,7 @@ use Rattle.std.specs.Prelude.{◌≡◌, ◌⊎◌, ℕ, ◌<◌, ◌≤◌, ◌
 use Rattle.base64.specs.Engines.{standard}
 use Rattle.base64.specs.GeneralPurpose.{encode_of, decode_of, decoded_of, IsBytes}
 use Rattle.sshkey_model.specs.Parts.{are_bytes}
-use Rattle.sshkey_base.specs.Source.{Source, IsSound, Advances, announced_len}
+use Rattle.sshkey_base.specs.Reading.{Source, IsSound, Advances, announced_len}
 use Rattle.sshkey_base.specs.declared.encoding.Error as narrow
 use Rattle.sshkey_base.specs.declared.encoding.Error.TheVariants as encoding
 

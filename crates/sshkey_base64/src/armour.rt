@@ -3,8 +3,7 @@
 ghost use Rattle.std.specs.Prelude.{◌≡◌, ℕ, List, IfErr, IfOk, MatchOption, filter, not};
 ghost use Rattle.sshkey_base.specs.declared.error.Error.TheVariants as wide;
 ghost use Rattle.sshkey_model.specs.Lines.{IsWithout};
-ghost use Rattle.sshkey_base64.specs.Armour.{Encloses, dash, is_white};
-ghost use Rattle.sshkey_base64.specs.ArmourReading.{CutsBeforeDash, FollowsLineEnd, ReadsArmour};
+ghost use Rattle.sshkey_base64.specs.Armour.{Encloses, dash, is_white, CutsBeforeDash, FollowsLineEnd, ReadsArmour};
 
 use base64::DecodeAllocError;
 use base64::engine::general_purpose::STANDARD;

@@ -2,7 +2,7 @@
 
 ghost use Rattle.std.specs.Prelude.{◌≡◌, ◌≢◌, ◌≤◌, ◌<◌, ◌+◌, ◌*◌, ◌/◌, ◌%◌, ◌⊎◌, ◌↔◌, [], length, slice_range, IfOk, IfErr, OnOk, IsTrue, true};
 ghost use Rattle.sshkey_model.specs.Parts.{are_bytes};
-ghost use Rattle.sshkey_base.specs.Source.{Takes, Later, Advances, announced_len};
+ghost use Rattle.sshkey_base.specs.Reading.{Takes, Later, Advances, announced_len};
 ghost use Rattle.sshkey_base.specs.declared.encoding.Error.TheVariants as encoding;
 ghost use Rattle.sshkey_base64.specs.Words64.{IsSourceOf, pad_count, announced, word_source, DecodesGroups, DecodesSome, TakesBase64, Holds, IsWordFault};
 

@@ -3,7 +3,7 @@ use Rattle.std.proofs.Common.{◌≡◌, ◌∙◌, ◌<◌, ◌↔◌, ℕ, zer
 use Rattle.std.specs.Char.{to_ascii_lowercase}
 use Rattle.std.specs.List.{AllByRecursion, Any}
 use Rattle.std.specs.Int.{to_be_bytes, w16}
-use Rattle.sshkey_base.proofs.Leaves.{string_grammar, text_grammar}
+use Rattle.sshkey_base.proofs.Lawful.{string_grammar, text_grammar}
 use Rattle.sshkey_model.proofs.LawfulReaders.{fits_box, fits_bytes, number_bytes}
 use Rattle.sshkey_model.proofs.TextReaders.{box_shows}
 use Rattle.sshkey_model.specs.Grammar.{normal_is_spelling}

@@ -1,7 +1,7 @@
 //! How a certificate is made.
 
 ghost use Rattle.std.specs.Prelude.{◌≡◌, ◌≢◌};
-ghost use Rattle.sshkey_base.specs.Acceptance.{SpellsSome};
+ghost use Rattle.sshkey_base.specs.Judgements.{SpellsSome};
 ghost use Rattle.sshkey_model.specs.Keys.{SpellsKey};
 ghost use Rattle.sshkey_calls.specs.Drafts.{IsToBeSigned, TellsWrong, WritesSigned, draft_fault};
 ghost use Rattle.sshkey_calls.specs.Writing.{WritesContent};

@@ -1,7 +1,7 @@
 //! Whether revocation files, or a key revocation list, leave a key or a certificate unrevoked.
 
 ghost use Rattle.std.specs.Prelude.{◌≡◌, ◌⊎◌, Err};
-ghost use Rattle.sshkey_base.specs.Acceptance.{SpellsSome};
+ghost use Rattle.sshkey_base.specs.Judgements.{SpellsSome};
 ghost use Rattle.sshkey_model.specs.Keys.{key_data_at};
 ghost use Rattle.sshkey_krl.specs.Krls.{SpellsKrl, krl_format};
 ghost use Rattle.sshkey_model.specs.Certificates.{certificate_at, SpellsCertificate};

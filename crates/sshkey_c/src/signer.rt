@@ -4,7 +4,7 @@ ghost use Rattle.std.specs.Prelude.{◌≡◌, ◌≢◌, Err};
 ghost use Rattle.std.specs.Str.{IsUtf8};
 ghost use Rattle.allowed_signers.specs.AllowedSigners.{NeedsMemory};
 ghost use Rattle.sshkey_model.specs.Reading.{Fault, whole};
-ghost use Rattle.sshkey_sshsig.specs.SshSignatureReaders.{ssh_signature_value_at};
+ghost use Rattle.sshkey_sshsig.specs.SshSignatureFormats.{ssh_signature_value_at};
 ghost use Rattle.sshkey_calls.specs.Numbers.{fault_number};
 ghost use Rattle.sshkey_calls.specs.Validations.{authorities_of};
 ghost use Rattle.sshkey_entry_calls.specs.SshSignatures.{TellsSigner, TellsByKeys};

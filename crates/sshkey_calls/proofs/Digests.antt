@@ -1,9 +1,9 @@
 -- The digest of the key that bytes spell.
 use Rattle.std.proofs.Common.{◌≡◌, ℕ, List, Ok, Err, inl, inr, refl, subst, sym, ◌∙◌}
-use Rattle.sshkey_base.specs.Acceptance.{SpellsSome}
+use Rattle.sshkey_base.specs.Judgements.{SpellsSome}
 use Rattle.sshkey_fingerprints.specs.Fingerprints.{digest_of}
 use Rattle.sshkey_fingerprints.specs.declared.fingerprint.Fingerprint.{Fingerprint}
-use Rattle.sshkey_keys.specs.Fingerprints.{IsFingerprint}
+use Rattle.sshkey_keys.specs.Keys.{IsFingerprint}
 use Rattle.sshkey_keys_ref.specs.KeyBytes.{IsRenamed}
 use Rattle.sshkey_model.specs.Keys.{Key, SpellsKey}
 use Rattle.sshkey_model.specs.Names.{Hash}

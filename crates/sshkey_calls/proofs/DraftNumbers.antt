@@ -13,7 +13,7 @@ use Rattle.sshkey_model.specs.Texts.{string, texts_at}
 use Rattle.sshkey_base.proofs.Accepted.{spelled_whole}
 use Rattle.sshkey_base.specs.Causes.{Cause, Faulty, NoMemory}
 use Rattle.sshkey_base.specs.Reading.{IsRefused}
-use Rattle.sshkey_base.proofs.Leaves.{texts_grammar}
+use Rattle.sshkey_base.proofs.Lawful.{texts_grammar}
 use Rattle.sshkey_terms.specs.Slices.{Keeps}
 use Rattle.sshkey_keys.proofs.KeyReaders.{key_grammar}
 use Rattle.sshkey_cert_values.proofs.Lawful.{options_grammar}

@@ -6,7 +6,7 @@ use Rattle.sshkey_base.specs.declared.encoding.Error as narrow
 use Rattle.sshkey_base.specs.declared.encoding.Error.TheVariants as encoding
 use Rattle.sshkey_base.specs.declared.error.Error.{Error}
 use Rattle.sshkey_base.specs.declared.error.Error.TheVariants as wide
-use Rattle.sshkey_base.proofs.Leaves.{texts_grammar}
+use Rattle.sshkey_base.proofs.Lawful.{texts_grammar}
 use Rattle.sshkey_keys.proofs.KeyReaders.{key_grammar}
 use Rattle.sshkey_model.specs.Certificates.{CertificateType, SignedFields, User, Host, normal_to_be_signed, type_number}
 use Rattle.sshkey_model.specs.Keys.{Key, SpellsKey}

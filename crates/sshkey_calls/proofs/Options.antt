@@ -7,7 +7,7 @@ use Rattle.sshkey_model.specs.Texts.{string}
 use Rattle.sshkey_model.proofs.CombinedReaders.{are_bytes-append, fits_box, fits_bytes, fits_first, fits_second, fits_inside, fits_length, wide32}
 use Rattle.sshkey_model.proofs.Grammars.{one_front}
 use Rattle.sshkey_model.specs.Leaves.{SpellsString}
-use Rattle.sshkey_base.proofs.Leaves.{string_grammar}
+use Rattle.sshkey_base.proofs.Lawful.{string_grammar}
 use Rattle.sshkey_base.specs.Reading.{NoFront}
 use Rattle.sshkey_terms.specs.Slices.{IsSplit}
 use Rattle.sshkey_calls.specs.Certificates.{BeginsWithOption, FindsOption}

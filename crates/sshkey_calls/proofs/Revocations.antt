@@ -1,6 +1,6 @@
 -- What a key revocation list says of a key or of a certificate, and the number that tells it.
 use Rattle.std.proofs.Common.{◌≡◌, ◌≢◌, ◌<◌, ℕ, List, Bool, refl, arith, subst}
-use Rattle.sshkey_base.specs.Acceptance.{SpellsSome}
+use Rattle.sshkey_base.specs.Judgements.{SpellsSome}
 use Rattle.sshkey_base.specs.Causes.{Cause, Faulty, NoMemory, Other}
 use Rattle.sshkey_keys_ref.specs.KeyBytes.{IsRenamed}
 use Rattle.sshkey_krl.specs.Revocation.{Krl, certificate_identity, revokes, revokes_certificate}

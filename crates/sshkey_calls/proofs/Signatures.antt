@@ -8,8 +8,7 @@ use Rattle.sshkey_model.specs.Reading.{Fault, whole}
 use Rattle.sshkey_model.specs.SshSignatures.{SshSignature}
 use Rattle.sshkey_base.specs.Causes.{Cause, Faulty, NoMemory, Other}
 use Rattle.sshkey_base.specs.Reading.{IsRefused}
-use Rattle.sshkey_sshsig.specs.SshSignatureFormats.{ssh_signature_format}
-use Rattle.sshkey_sshsig.specs.SshSignatureReaders.{ssh_signature_value_at}
+use Rattle.sshkey_sshsig.specs.SshSignatureFormats.{ssh_signature_format, ssh_signature_value_at}
 use Rattle.sshkey_calls.specs.Numbers.{fault_number}
 use Rattle.sshkey_model.specs.Keys.{Key, SpellsKey}
 use Rattle.sshkey_model.specs.Signatures.{Signature, SpellsSignature}

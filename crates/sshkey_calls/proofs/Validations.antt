@@ -14,7 +14,7 @@ use Rattle.sshkey_model.specs.Verification.{Question, question, question_under}
 use Rattle.sshkey_model.specs.Verification as model
 use Rattle.sshkey_model.proofs.Grammars.{one_front}
 use Rattle.sshkey_model.proofs.Refusals.{none_where_valid, none_where_wanted}
-use Rattle.sshkey_base.specs.Acceptance.{SpellsSome}
+use Rattle.sshkey_base.specs.Judgements.{SpellsSome}
 use Rattle.sshkey_cert.proofs.Certificates.{certificate_grammar}
 use Rattle.sshkey_cert.specs.Validity.{certificate_question}
 use Rattle.sshkey_cert_ref.specs.CertificateRef.{certificate_bytes, certificate_of, choices_of}
@@ -23,7 +23,7 @@ use Rattle.sshkey_cert_ref.proofs.Answers.{allows_is}
 use Rattle.sshkey_cert_ref.proofs.Certificates.{spelled_by}
 use Rattle.sshkey_fingerprints.specs.Fingerprints.{digest_of}
 use Rattle.sshkey_fingerprints.specs.declared.fingerprint.Fingerprint as code
-use Rattle.sshkey_keys.specs.Fingerprints.{IsFingerprint}
+use Rattle.sshkey_keys.specs.Keys.{IsFingerprint}
 use Rattle.sshkey_calls.specs.Numbers.{refusal_status}
 use Rattle.sshkey_calls.specs.Validations.{HasRenamedAuthority, IsGoodCertificate, IsGoodCertificateFor, SaysWhether, TellsFirst, TellsFirstFor, TellsRefusal, Verified, authorities_of, first_refusal_of, is_yes_number}
 use Rattle.sshkey_calls.specs.declared.digest.Sha256Digest.{Sha256Digest}

@@ -5,7 +5,7 @@ use Rattle.sshkey_model.specs.Keys.{Key, normal_key, SpellsKey, key_data_at}
 use Rattle.sshkey_model.specs.Names.{Hash}
 use Rattle.sshkey_model.specs.Parts.{flat}
 use Rattle.sshkey_fingerprints.specs.declared.fingerprint.Fingerprint.{Fingerprint}
-use Rattle.sshkey_keys.specs.Fingerprints.{IsFingerprint}
+use Rattle.sshkey_keys.specs.Keys.{IsFingerprint}
 use Rattle.sshkey_calls.specs.Rooms.{TellsOf}
 
 -- it is the digest of the key's fingerprint by that hash

@@ -12,9 +12,8 @@ use Rattle.sshkey_calls.specs.declared.question.Question.{Question}
 use Rattle.sshkey_model.specs.Names.{Sha256}
 use Rattle.sshkey_model.specs.SignedMessages.{signed_by}
 use Rattle.sshkey_model.specs.SshSignatures.{SshSignature, normal_ssh_signature, signed_data}
-use Rattle.sshkey_base.specs.Digests.{digest_len}
-use Rattle.sshkey_sshsig.specs.SshSignatureFormats.{ssh_signature_format}
-use Rattle.sshkey_sshsig.specs.SshSignatureReaders.{SpellsSshSignature, ssh_signature_value_at}
+use Rattle.sshkey_base.specs.Names.{digest_len}
+use Rattle.sshkey_sshsig.specs.SshSignatureFormats.{ssh_signature_format, SpellsSshSignature, ssh_signature_value_at}
 use Rattle.sshkey_sshsig.specs.SshSignatures.{ssh_signature_of}
 use Rattle.sshkey_sshsig.specs.declared.sshsig.SshSig.{SshSig}
 use Rattle.sshkey_calls.specs.Fingerprints.{GivesDigestOf}

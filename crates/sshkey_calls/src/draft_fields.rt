@@ -1,8 +1,8 @@
 //! The fields that a draft tells. Each is read, or gives the number to answer with.
 
 ghost use Rattle.std.specs.Prelude.{◌≡◌, ◌≢◌, ◌<◌, ◌↔◌, ◌∷◌, [], Err, IfErr, IfOk, IsTrue};
-ghost use Rattle.sshkey_base.specs.Acceptance.{SpellsSome};
-ghost use Rattle.sshkey_base.specs.TextLists.{texts_of};
+ghost use Rattle.sshkey_base.specs.Judgements.{SpellsSome};
+ghost use Rattle.sshkey_base.specs.Values.{texts_of};
 ghost use Rattle.sshkey_keys.specs.Keys.{key_of};
 ghost use Rattle.sshkey_model.specs.Keys.{SpellsKey, key_data_at};
 ghost use Rattle.sshkey_model.specs.Parts.{flat};

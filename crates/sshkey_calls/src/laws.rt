@@ -3,7 +3,7 @@
 ghost use Rattle.sshkey_model.specs.Keys.{SpellsKey, key_data_at};
 ghost use Rattle.sshkey_model.specs.Certificates.{certificate_at, SpellsCertificate};
 ghost use Rattle.sshkey_model.specs.Signatures.{signature_at, SpellsSignature};
-ghost use Rattle.sshkey_sshsig.specs.SshSignatureReaders.{SpellsSshSignature, ssh_signature_value_at};
+ghost use Rattle.sshkey_sshsig.specs.SshSignatureFormats.{SpellsSshSignature, ssh_signature_value_at};
 ghost use Rattle.sshkey_calls.specs.Rooms.{HasOneOutcome};
 
 /// Bytes that spell a value spell no other, and have no fault. So a call tells of a value exactly

@@ -1,7 +1,7 @@
 //! Normal forms: of the spellings that a value has, the one that is written, digested and signed.
 
 ghost use Rattle.std.specs.Prelude.{◌≡◌};
-ghost use Rattle.sshkey_base.specs.Acceptance.{SpellsSome};
+ghost use Rattle.sshkey_base.specs.Judgements.{SpellsSome};
 ghost use Rattle.sshkey_cert_ref.specs.CertificateRef.{certificate_of};
 ghost use Rattle.sshkey_keys_ref.specs.KeyBytes.{IsRenamed};
 ghost use Rattle.sshkey_keys_ref.specs.Keys.{key_bytes};

@@ -1,7 +1,7 @@
 //! Whether a certificate is valid, given what the caller's verification said.
 
 ghost use Rattle.std.specs.Prelude.{◌≡◌, ◌≢◌, ◌↔◌, Bool, Err, IsTrue, MatchOption, option_map};
-ghost use Rattle.sshkey_base.specs.Acceptance.{SpellsSome};
+ghost use Rattle.sshkey_base.specs.Judgements.{SpellsSome};
 ghost use Rattle.sshkey_cert_ref.specs.CertificateRef.{certificate_of, choices_of};
 ghost use Rattle.sshkey_model.specs.Certificates.{certificate_at, SpellsCertificate};
 ghost use Rattle.sshkey_model.specs.Keys.{Plain};

@@ -23,8 +23,7 @@ use Rattle.sshkey_cert_values.proofs.Lawful.{to_be_signed_lawful, to_be_signed_i
 use Rattle.sshkey_cert.specs.Certificates.{certificate_of}
 use Rattle.sshkey_cert.specs.declared.certificate.Certificate as code
 use Rattle.sshkey_base.specs.Causes.{NoMemory, cause}
-use Rattle.sshkey_base.specs.Reading.{NoSpelling}
-use Rattle.sshkey_base.specs.Source.{IsSound, all_of}
+use Rattle.sshkey_base.specs.Reading.{NoSpelling, IsSound, all_of}
 use Rattle.sshkey_base.specs.declared.error.Error.{Error}
 use Rattle.sshkey_cert.specs.KeysOrCertificates.{AcceptsEither, NeedsEither, names_certificate}
 use Rattle.sshkey_cert.specs.declared.key_or_certificate.KeyOrCertificate.TheVariants as either

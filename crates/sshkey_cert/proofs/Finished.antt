@@ -3,8 +3,7 @@ use Rattle.std.proofs.Common.{◌≡◌, ℕ, List, [], ◌∷◌, length, Ok, E
 use Rattle.std.proofs.lemmas.Bool.{eqb-true}
 use Rattle.sshkey_model.specs.Reading.{Front, whole}
 use Rattle.sshkey_base.specs.declared.encoding.Error.{Error}
-use Rattle.sshkey_base.specs.Reading.{Reads, ReadsAll}
-use Rattle.sshkey_base.specs.Source.{Source, announced_len}
+use Rattle.sshkey_base.specs.Reading.{Reads, ReadsAll, Source, announced_len}
 
 handed : {X : Type 0} (b : Bool) (x y : X) (e : Error) → Ok y ≡ cond b (Ok x) (Err e) → (b ≡ true) × (y ≡ x)
 handed true x y e is = (refl, cc)

@@ -11,7 +11,7 @@ use Rattle.sshkey_model.specs.Names.{Algorithm, Ecdsa, Other, Nistp256, algorith
 use Rattle.sshkey_model.specs.Parts.{bytes, flat}
 use Rattle.sshkey_model.proofs.CertificateNameReaders.{cut_parts}
 use Rattle.sshkey_base.specs.Sink.{Sink, Written}
-use Rattle.sshkey_base.proofs.CertificateTypes.{certificate_name-cut}
+use Rattle.sshkey_base.proofs.OwnNames.{certificate_name-cut}
 use Rattle.sshkey_base.proofs.Labels.{ascii}
 use Rattle.sshkey_base.proofs.Writing.{after_nothing}
 use Rattle.std.proofs.lemmas.Bool.{and_parts}

@@ -3,8 +3,7 @@
 ghost use Rattle.std.specs.Prelude.{◌≡◌, IfErr, IfOk};
 ghost use Rattle.sshkey_base.specs.Causes.{cause};
 ghost use Rattle.sshkey_model.specs.CertificateNames.{certified_format};
-ghost use Rattle.sshkey_base.specs.Needs.{Asks};
-ghost use Rattle.sshkey_base.specs.Source.{all_of};
+ghost use Rattle.sshkey_base.specs.Reading.{Asks, all_of};
 ghost use Rattle.sshkey_base.specs.declared.error.Error.TheVariants.{Memory};
 ghost use Rattle.sshkey_cert.specs.KeysOrCertificates.{AcceptsEither, NeedsEither, RefusesEither, names_certificate};
 

@@ -6,7 +6,7 @@ use Rattle.sshkey_model.specs.Certificates.{Certificate}
 use Rattle.sshkey_model.specs.Fingerprints.{Fingerprint}
 use Rattle.sshkey_model.specs.Verification.{Question}
 use Rattle.sshkey_model.specs.Validity.{IsValid}
-use Rattle.sshkey_base.specs.TextLists.{texts_of}
+use Rattle.sshkey_base.specs.Values.{texts_of}
 use Rattle.sshkey_base.specs.declared.certificate.field.Field.{Field}
 use Rattle.sshkey_base.specs.declared.certificate.field.Field.TheVariants as field
 use Rattle.sshkey_base.specs.declared.error.Error.{Error}

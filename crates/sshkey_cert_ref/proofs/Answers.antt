@@ -6,17 +6,14 @@ use Rattle.sshkey_model.specs.Reading.{Front, Whole}
 use Rattle.sshkey_model.specs.Refusals.{allows, Refusal, NotSigned, UntrustedAuthority, InvalidTime, OutOfWindow, UnlistedPrincipal}
 use Rattle.sshkey_model.proofs.CombinedReaders.{ok_is}
 use Rattle.sshkey_model.proofs.Refusals.{allowed, allows_it}
-use Rattle.sshkey_base.specs.Answers.{Answers}
+use Rattle.sshkey_base.specs.Judgements.{Answers}
 use Rattle.sshkey_base.specs.Causes.{Cause, NoMemory}
-use Rattle.sshkey_base.specs.Reading.{Gives, GivesWhole}
-use Rattle.sshkey_base.specs.Source.{Source, all_of}
-use Rattle.sshkey_base.proofs.Judging.{only_memory}
-use Rattle.sshkey_keys.specs.Keys.{key_of}
+use Rattle.sshkey_base.specs.Reading.{Gives, GivesWhole, Source, all_of, Asks}
+use Rattle.sshkey_base.proofs.Steps.{only_memory}
+use Rattle.sshkey_keys.specs.Keys.{key_of, is_ecdsa, is_ed25519}
 use Rattle.sshkey_keys.specs.declared.key_data.KeyData.{KeyData}
 use Rattle.sshkey_model.specs.CertificateNames.{certificate_name, certified}
 use Rattle.sshkey_model.specs.Names.{Algorithm, Nistp256, Nistp384, Nistp521, named}
-use Rattle.sshkey_base.specs.Needs.{Asks}
-use Rattle.sshkey_keys.specs.KeyKinds.{is_ecdsa, is_ed25519}
 use Rattle.sshkey_keys_ref.proofs.Keys.{is_of_one_size, sized}
 use Rattle.sshkey_base.specs.declared.error.Error.{Error}
 use Rattle.sshkey_base.specs.declared.error.Error.TheVariants.{Memory}

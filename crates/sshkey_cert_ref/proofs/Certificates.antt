@@ -9,7 +9,7 @@ use Rattle.sshkey_model.specs.Reading.{Fault, ◌>>=◌, Front, after_at, end_of
 use Rattle.sshkey_model.proofs.CertificateNameReaders.{certified_checks, certified_again}
 use Rattle.sshkey_model.proofs.CertificateReaders.{certified_plain, signed_fields_reads, certificate_reads}
 use Rattle.sshkey_model.proofs.KeyReaders.{body_reads, key_reads}
-use Rattle.sshkey_base.specs.Answers.{AnswersAlways, Judges}
+use Rattle.sshkey_base.specs.Judgements.{AnswersAlways, Judges}
 use Rattle.sshkey_base.specs.Causes.{Cause}
 use Rattle.sshkey_base.specs.Reading.{Refuses, NoSpelling}
 use Rattle.sshkey_base.proofs.Labels.{same_bytes}

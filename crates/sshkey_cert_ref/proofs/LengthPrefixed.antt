@@ -7,10 +7,10 @@ use Rattle.sshkey_model.specs.Names.{Dsa}
 use Rattle.sshkey_model.proofs.CombinedReaders.{whole_reads}
 use Rattle.sshkey_model.proofs.KeyReaders.{key_reads}
 use Rattle.sshkey_model.proofs.SignatureReaders.{signature_reads}
-use Rattle.sshkey_base.specs.Answers.{AnswersAlways}
+use Rattle.sshkey_base.specs.Judgements.{AnswersAlways}
 use Rattle.sshkey_base.specs.Causes.{Cause}
 use Rattle.sshkey_base.proofs.MappedBoxes.{made}
-use Rattle.sshkey_keys.proofs.BoxedKeys.{plain, key_whole}
+use Rattle.sshkey_keys.proofs.KeyReaders.{plain, key_whole}
 use Rattle.sshkey_keys_ref.specs.Keys.{key_bytes}
 use Rattle.sshkey_keys_ref.specs.Signatures.{signature_bytes}
 use Rattle.sshkey_keys_ref.specs.declared.key_data_ref.KeyDataRef.{KeyDataRef}

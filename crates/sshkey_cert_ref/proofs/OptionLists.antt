@@ -4,11 +4,10 @@ use Rattle.std.specs.Int.{w32, to_be_bytes}
 use Rattle.std.specs.Prelude.{nat_lt}
 use denote.Ref.{Bor}
 use Rattle.sshkey_model.specs.Reading.{Fault, Length, ◌>>=◌, Front, Whole, number_at, box_at, checked_at, end_of, list_whole, to_end, whole}
-use Rattle.sshkey_base.specs.Answers.{AnswersAlways}
+use Rattle.sshkey_base.specs.Judgements.{AnswersAlways}
 use Rattle.sshkey_base.specs.Causes.{Cause}
-use Rattle.sshkey_base.specs.Reading.{Reads, Refuses, GivesAlways, NoSpelling}
-use Rattle.sshkey_base.specs.Source.{Source, all_of}
-use Rattle.sshkey_base.proofs.Judging.{judged_always}
+use Rattle.sshkey_base.specs.Reading.{Reads, Refuses, GivesAlways, NoSpelling, Source, all_of}
+use Rattle.sshkey_base.proofs.Steps.{judged_always}
 use Rattle.sshkey_model.specs.Options.{CertificateOption, Nesting, apart, option_at, firsts, seconds, options_at, Plain, Nested, HasNesting, HasOptionPlaces, option, each_option, plain_nestings}
 use Rattle.sshkey_model.proofs.CombinedReaders.{bind_ok}
 use Rattle.sshkey_model.proofs.OptionReaders.{option_list_reads}

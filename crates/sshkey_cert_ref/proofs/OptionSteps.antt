@@ -8,7 +8,7 @@ use Rattle.sshkey_model.specs.Texts.{text_at, text_format}
 use Rattle.sshkey_model.specs.Options.{Nesting, nesting_of, spelled_text, spelled_value_format, CertificateOption, Plain, Nested, option, option_at, firsts, may_follow, seconds, spelled_option_format}
 use Rattle.sshkey_base.specs.declared.encoding.Error.{Error}
 use Rattle.sshkey_base.specs.declared.encoding.Error.TheVariants as encoding
-use Rattle.sshkey_base.specs.Answers.{AnswersAlways}
+use Rattle.sshkey_base.specs.Judgements.{AnswersAlways}
 use Rattle.sshkey_base.specs.Causes.{encoding_cause, cause}
 use Rattle.sshkey_base.proofs.Boxes.{some_after}
 use Rattle.sshkey_keys_ref.specs.Taking.{TakesValue}
@@ -19,8 +19,7 @@ use Rattle.sshkey_model.specs.Terms.{◌then◌, boxed}
 use Rattle.sshkey_model.proofs.CombinedReaders.{bind_ok, ok_is, met}
 use Rattle.sshkey_model.proofs.OptionReaders.{option_reads}
 use Rattle.sshkey_base.specs.declared.error.Error as wide-error
-use Rattle.sshkey_base.specs.Reading.{Refuses}
-use Rattle.sshkey_base.specs.Source.{all_of}
+use Rattle.sshkey_base.specs.Reading.{Refuses, all_of}
 use Rattle.sshkey_base.proofs.ReadLists.{Collects, collects_more, leaves_less}
 use Rattle.sshkey_cert_ref.specs.declared.certificate_options_ref.item.SpelledOption.{SpelledOption}
 use Rattle.sshkey_cert_ref.specs.Lists.{options_in, are_plain, plainness_from}

@@ -3,7 +3,7 @@ use Rattle.std.proofs.Common.{◌≡◌, ℕ, zero, suc, ◌<◌, ◌≤◌, Opt
 use Rattle.std.proofs.lemmas.List.{nil_from_length}
 use Rattle.sshkey_model.specs.Reading.{Fault, Front, list_within, list_whole, to_end, CharacterEncoding, ◌>>=◌, string_at}
 use Rattle.sshkey_model.proofs.CombinedReaders.{bind_ok, ok_is, done as ok}
-use Rattle.sshkey_base.specs.Source.{all_of, announced_len}
+use Rattle.sshkey_base.specs.Reading.{all_of, announced_len, NoSpelling, Refuses}
 use Rattle.sshkey_base.specs.Causes.{NoMemory, Faulty, Cause, encoding_cause}
 use Rattle.std.specs.Prelude.{◌≢◌, IsErrAnd}
 use Rattle.sshkey_base.proofs.ReadLists.{Collects, collects_refused, collects_end, collects_more, leaves_less}
@@ -15,8 +15,7 @@ use Rattle.sshkey_model.specs.Parts.{bytes}
 use Rattle.sshkey_model.specs.Texts.{IsText, text_from, text_at, text_list_at}
 use Rattle.sshkey_model.proofs.TextReaders.{text_reads, text_list_reads, box_shows}
 use Rattle.sshkey_base.specs.declared.encoding.Error.{Error}
-use Rattle.sshkey_base.specs.Answers.{AnswersAlways, Judges}
-use Rattle.sshkey_base.specs.Reading.{NoSpelling, Refuses}
+use Rattle.sshkey_base.specs.Judgements.{AnswersAlways, Judges}
 use Rattle.sshkey_cert_ref.specs.Lists.{SpellsEachText, texts_in}
 use Rattle.sshkey_keys_ref.specs.Taking.{TakesValue}
 use Rattle.sshkey_cert_ref.specs.Views.{bytes_of_texts, texts_of}

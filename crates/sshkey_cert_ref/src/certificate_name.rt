@@ -1,7 +1,7 @@
 //! Names of algorithms in certificates, as slices.
 
 ghost use Rattle.std.specs.Prelude.{◌≡◌, true};
-ghost use Rattle.sshkey_base.specs.Answers.{AnswersAlways};
+ghost use Rattle.sshkey_base.specs.Judgements.{AnswersAlways};
 ghost use Rattle.sshkey_base.specs.Causes.{cause};
 ghost use Rattle.sshkey_model.specs.Formats.{IsFormat};
 ghost use Rattle.sshkey_model.specs.CertificateNames.{certified_from, certified_format};
@@ -22,7 +22,7 @@ pub(crate) struct CertificateName<'a> {
 
 /// The string of the name. Fails with `Length` if it is not there whole, with `Label` if it is no
 /// such name.
-#[tactic(auto, using(sshkey_terms::proofs::Walking::walking, crate::proofs::Lawful::lawful), unfolding(sshkey_model::specs::CertificateNames::certificate_algorithm_at))]
+#[tactic(auto, using(sshkey_terms::proofs::Walks::walking, crate::proofs::Lawful::lawful), unfolding(sshkey_model::specs::CertificateNames::certificate_algorithm_at))]
 impl<'a> ReadFrom<&'a [u8]> for CertificateName<'a> {
     type Error = Error;
 

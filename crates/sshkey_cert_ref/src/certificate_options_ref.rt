@@ -4,7 +4,7 @@ ghost use Rattle.std.specs.Prelude.{◌≡◌, ◌∷◌, ◌<◌, ◌↔◌, []
 ghost use Rattle.sshkey_model.specs.OptionMaps.{value_of};
 ghost use Rattle.sshkey_model.specs.Options.{option_at};
 ghost use Rattle.sshkey_model.specs.Reading.{list_whole};
-ghost use Rattle.sshkey_base.specs.Answers.{AnswersAlways};
+ghost use Rattle.sshkey_base.specs.Judgements.{AnswersAlways};
 ghost use Rattle.sshkey_base.specs.Causes.{cause};
 ghost use Rattle.sshkey_terms.specs.Slices.{is_taken};
 ghost use Rattle.sshkey_cert_ref.specs.Lists.{are_plain, nestings_in, options_in, plainness_from};

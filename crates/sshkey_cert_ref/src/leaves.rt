@@ -23,7 +23,7 @@ use std::convert::TryFrom;
 pub(crate) struct Field<T>(pub T);
 
 /// The type, a number of four bytes. Fails with `FormatEncoding` if it is neither 1 nor 2.
-#[tactic(auto, using(sshkey_terms::proofs::Walking::walking, crate::proofs::Lawful::lawful))]
+#[tactic(auto, using(sshkey_terms::proofs::Walks::walking, crate::proofs::Lawful::lawful))]
 impl<'a> ReadFrom<&'a [u8]> for Field<CertType> {
     type Error = Error;
 
@@ -44,7 +44,7 @@ impl<'a> ReadFrom<&'a [u8]> for Field<CertType> {
 }
 
 /// A time, a number of eight bytes. `Time` above 2^63 - 1.
-#[tactic(auto, using(sshkey_terms::proofs::Walking::walking, crate::proofs::Lawful::lawful))]
+#[tactic(auto, using(sshkey_terms::proofs::Walks::walking, crate::proofs::Lawful::lawful))]
 impl<'a> ReadFrom<&'a [u8]> for Field<UnixTime> {
     type Error = Error;
 
@@ -65,7 +65,7 @@ impl<'a> ReadFrom<&'a [u8]> for Field<UnixTime> {
 }
 
 /// An end of validity, a number of eight bytes. `Time` above 2^63 - 1, but for 2^64 - 1.
-#[tactic(auto, using(sshkey_terms::proofs::Walking::walking, crate::proofs::Lawful::lawful))]
+#[tactic(auto, using(sshkey_terms::proofs::Walks::walking, crate::proofs::Lawful::lawful))]
 impl<'a> ReadFrom<&'a [u8]> for Field<EndTime> {
     type Error = Error;
 

@@ -3,7 +3,7 @@
 ghost use Rattle.std.specs.Prelude.{◌≡◌, ◌∷◌, ◌<◌, ◌↔◌, [], true, bytes_eq, length, Contains, IsTrue};
 ghost use Rattle.std.specs.List.{list_any};
 ghost use Rattle.sshkey_model.specs.Texts.{IsText, text_list_at};
-ghost use Rattle.sshkey_base.specs.Answers.{Judges};
+ghost use Rattle.sshkey_base.specs.Judgements.{Judges};
 ghost use Rattle.sshkey_base.specs.Causes.{encoding_cause};
 ghost use Rattle.sshkey_terms.specs.Slices.{is_taken};
 ghost use Rattle.sshkey_cert_ref.specs.Lists.{texts_in};

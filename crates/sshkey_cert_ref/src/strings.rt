@@ -2,7 +2,7 @@
 
 ghost use Rattle.std.specs.Prelude.{IfOk, Ok};
 ghost use Rattle.sshkey_base.specs.Causes.{encoding_cause};
-ghost use Rattle.sshkey_base.specs.Source.{Later, all_of};
+ghost use Rattle.sshkey_base.specs.Reading.{Later, all_of};
 ghost use Rattle.sshkey_keys_ref.specs.Taking.{TakesValue};
 ghost use Rattle.sshkey_model.specs.Reading.{box_at};
 ghost use Rattle.sshkey_terms.specs.Slices.{Splits};

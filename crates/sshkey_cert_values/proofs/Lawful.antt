@@ -21,7 +21,7 @@ use Rattle.sshkey_model.proofs.TextReaders.{box_shows}
 use Rattle.sshkey_base.proofs.Lawful.{number32_lawful, number64_lawful, text_lawful, certified_lawful, string_lawful, texts_lawful}
 use Rattle.sshkey_terms.proofs.Lawful.{boxed_lawful, each_after_lawful, known_as_lawful, needing_lawful, or_nothing_lawful, tested_lawful, then_lawful, dependent_lawful}
 use Rattle.sshkey_model.proofs.CertificateReaders.{signed_fields_reads}
-use Rattle.sshkey_keys.proofs.BoxedKeys.{key_box}
+use Rattle.sshkey_keys.proofs.KeyReaders.{key_box}
 use Rattle.sshkey_keys.proofs.Lawful.{body_lawful, key_lawful}
 
 -- what is written is a spelling

@@ -7,20 +7,19 @@ use Rattle.sshkey_model.specs.Reading.{FormatEncoding, Front, Fault, Length, num
 use Rattle.sshkey_model.specs.Texts.{text_at}
 use Rattle.sshkey_model.proofs.CombinedReaders.{met, ok_is}
 use Rattle.sshkey_base.specs.Causes.{Cause, Faulty, NoMemory}
-use Rattle.sshkey_base.specs.Source.{Source, announced_len, IsSound, Later}
-use Rattle.sshkey_base.specs.Reading.{Reads, Gives}
-use Rattle.sshkey_terms.proofs.Each.{leaves_less}
+use Rattle.sshkey_base.specs.Reading.{Source, announced_len, IsSound, Later, Reads, Gives}
+use Rattle.sshkey_terms.proofs.ReadLists.{leaves_less}
 use Rattle.sshkey_cert_values.proofs.Lawful.{option_lawful, option_shows, value_lawful, option_parts_lawful, item}
 use Rattle.sshkey_model.specs.Needs.{HasString, NeedsString}
 use Rattle.sshkey_model.specs.Overruns.{OverrunsBoxed, OverrunsString, OverrunsWithin}
 use Rattle.sshkey_model.specs.Terms.{boxed, needing}
-use Rattle.sshkey_base.specs.Stops.{Stopped, StopsBy, StopsToEnd, RanOut}
+use Rattle.sshkey_base.specs.Formats.{Stopped, StopsBy, StopsToEnd, RanOut}
 use Rattle.sshkey_base.proofs.Lengths.{text_lengths}
 use Rattle.sshkey_base.proofs.Stopping.{checked_stopped, not_taken, step_ok}
 use Rattle.sshkey_terms.proofs.After.{both_reads}
 use Rattle.sshkey_terms.proofs.Lawful.{checked_read}
 use Rattle.sshkey_terms.proofs.Stopping.{stopped_first, stopped_later}
-use Rattle.sshkey_terms.proofs.Tested.{tested_stopped}
+use Rattle.sshkey_terms.proofs.Records.{tested_stopped}
 use Rattle.std.specs.Prelude.{IsOkAnd}
 use Rattle.std.specs.Int.{w32}
 use Rattle.std.proofs.lemmas.Bool.{cases_lt}

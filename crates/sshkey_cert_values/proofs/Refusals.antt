@@ -11,9 +11,8 @@ use Rattle.sshkey_model.specs.Formats.{Format, IsFormat}
 use Rattle.sshkey_model.specs.Leaves.{number64_format, string_format}
 use Rattle.sshkey_model.specs.Texts.{text_format, texts_format}
 use Rattle.sshkey_model.specs.CertificateNames.{certified_format}
-use Rattle.sshkey_base.specs.Reading.{Reads, IsRefused}
-use Rattle.sshkey_base.specs.Source.{Source, IsSound}
-use Rattle.sshkey_base.specs.Stops.{Stopped}
+use Rattle.sshkey_base.specs.Reading.{Reads, IsRefused, Source, IsSound}
+use Rattle.sshkey_base.specs.Formats.{Stopped}
 use Rattle.sshkey_base.proofs.Lawful.{certified_lawful, string_lawful}
 use Rattle.sshkey_base.proofs.Steps.{asks_later, refused_first, refused_later}
 use Rattle.sshkey_base.proofs.Stopping.{checked_stopped}

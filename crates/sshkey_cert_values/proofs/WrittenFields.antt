@@ -6,7 +6,7 @@ use Rattle.sshkey_model.specs.Options.{CertificateOption, each_option, plain_nes
 use Rattle.sshkey_base.specs.declared.encoding.Error.{Error}
 use Rattle.sshkey_base.specs.Sink.{Sink, Written, after, Encodes, NotWritten}
 use Rattle.sshkey_base.proofs.Writing.{not_first, boxes_first, boxes_second, boxes_both, boxes_box, boxes_length, boxes_inside, length_both, length_box, length_bytes}
-use Rattle.sshkey_base.proofs.PlainParts.{encodes_later}
+use Rattle.sshkey_base.proofs.WrittenLists.{encodes_later}
 use Rattle.sshkey_cert_values.specs.CertificateFields.{option_of}
 use Rattle.sshkey_model.specs.Texts.{string}
 

@@ -15,7 +15,7 @@ use Rattle.sshkey_cert_values.specs.declared.options_map.OptionsMap.{OptionsMap}
 use Rattle.std.specs.Global.{Global}
 use Rattle.sshkey_cert_values.specs.declared.options_map.gathered.Gathered.{Gathered}
 use Rattle.sshkey_cert_values.specs.declared.options_map.gathered.Gathered.TheVariants.{Few, Many}
-use Rattle.sshkey_base.specs.TextLists.{texts_of}
+use Rattle.sshkey_base.specs.Values.{texts_of}
 use Rattle.sshkey_keys.specs.Keys.{key_of}
 use Rattle.sshkey_cert_values.specs.declared.certificate_fields.CertificateFields.{CertificateFields}
 use Rattle.std.specs.Int.{w64}

@@ -11,8 +11,8 @@ use Rattle.sshkey_cert_values.specs.declared.end_time.EndTime.{EndTime}
 use Rattle.sshkey_cert_values.specs.declared.options_map.OptionsMap.{OptionsMap}
 use Rattle.sshkey_cert_values.specs.declared.unix_time.UnixTime.{UnixTime}
 use Rattle.sshkey_cert_values.specs.CertificateFields.{options_of, end_of, time_of}
-use Rattle.sshkey_base.specs.TextLists.{texts_of}
-use Rattle.sshkey_keys.specs.Comparisons.{HasForm, key_parts}
+use Rattle.sshkey_base.specs.Values.{texts_of}
+use Rattle.sshkey_keys.specs.Keys.{HasForm, key_parts}
 use Rattle.sshkey_cert_values.specs.declared.certificate_fields.CertificateFields.{CertificateFields}
 
 abbrev pub time_key : UnixTime → List ℕ

@@ -3,7 +3,7 @@
 ghost use Rattle.std.specs.Prelude.{◌≡◌, ◌↔◌, IsTrue};
 ghost use Rattle.sshkey_model.specs.Certificates as model;
 ghost use Rattle.sshkey_model.specs.Certificates.{CertificateType, certificate_type, type_number, type_from, type_format};
-ghost use Rattle.sshkey_base.specs.Answers.{AnswersAlways};
+ghost use Rattle.sshkey_base.specs.Judgements.{AnswersAlways};
 ghost use Rattle.sshkey_base.specs.Causes.{cause};
 ghost use Rattle.sshkey_cert_values.specs.CertificateFields.{type_of};
 
@@ -73,7 +73,7 @@ impl TryFrom<u32> for CertType {
 }
 
 /// Four bytes, 1 or 2. Fails with `FormatEncoding` for any other number. Does not allocate.
-#[tactic(auto, using(sshkey_base::proofs::Steps::steps, sshkey_base::proofs::Judging::judged, sshkey_base::proofs::Stopping::stopping, crate::proofs::Lawful::type_lawful))]
+#[tactic(auto, using(sshkey_base::proofs::Steps::steps, sshkey_base::proofs::Steps::judged, sshkey_base::proofs::Stopping::stopping, crate::proofs::Lawful::type_lawful))]
 impl Decode for CertType {
     type Error = Error;
 

@@ -4,7 +4,7 @@ ghost use Rattle.std.specs.Prelude.{◌≡◌, ◌↔◌, ℕ, IsTrue, true};
 ghost use Rattle.std.specs.Int.{w64};
 ghost use Rattle.sshkey_model.specs.Certificates.{is_end, forever};
 ghost use Rattle.sshkey_model.specs.Parts.{number};
-ghost use Rattle.sshkey_base.specs.Answers.{AnswersAlways};
+ghost use Rattle.sshkey_base.specs.Judgements.{AnswersAlways};
 ghost use Rattle.sshkey_base.specs.Causes.{cause};
 ghost use Rattle.sshkey_model.specs.Certificates.{end_from, end_format};
 
@@ -75,7 +75,7 @@ impl From<UnixTime> for EndTime {
 
 /// Eight bytes, most significant first. Fails with `Time` above 2^63 - 1, but for `FOREVER`. Does
 /// not allocate.
-#[tactic(auto, using(sshkey_base::proofs::Steps::steps, sshkey_base::proofs::Judging::judged, sshkey_base::proofs::Stopping::stopping, crate::proofs::Lawful::end_lawful))]
+#[tactic(auto, using(sshkey_base::proofs::Steps::steps, sshkey_base::proofs::Steps::judged, sshkey_base::proofs::Stopping::stopping, crate::proofs::Lawful::end_lawful))]
 impl Decode for EndTime {
     ghost use Rattle.sshkey_cert_values.specs.CertificateFields.{end_of};
 

@@ -6,13 +6,10 @@ ghost use Rattle.std.specs.Map.Iter.{ShowsInOrder, deref_pair};
 ghost use Rattle.sshkey_model.specs.OptionMaps.{value_of, with_option, with_options};
 ghost use Rattle.sshkey_model.specs.Options.{CertificateOption, AreOptions, normal_options, option_list_format, options_format, options_value_at};
 ghost use Rattle.sshkey_base.specs.Causes.{cause};
-ghost use Rattle.sshkey_base.specs.Formats.{Stops};
+ghost use Rattle.sshkey_base.specs.Formats.{Stops, StopsPast};
 ghost use Rattle.sshkey_base.specs.Nested.{nested_source};
-ghost use Rattle.sshkey_base.specs.Needs.{Asks};
+ghost use Rattle.sshkey_base.specs.Reading.{Asks, DecodesWide, Gives, Later};
 ghost use Rattle.sshkey_model.specs.Needs.{NeedsBoxed, HasString};
-ghost use Rattle.sshkey_base.specs.Reading.{DecodesWide, Gives};
-ghost use Rattle.sshkey_base.specs.Source.{Later};
-ghost use Rattle.sshkey_base.specs.Stops.{StopsPast};
 ghost use Rattle.sshkey_cert_values.specs.CertificateFields.{IsNamedAmong, is_among, option_of, options_of};
 
 mod gathered;

@@ -4,7 +4,7 @@ ghost use Rattle.std.specs.Prelude.{◌≡◌, ℕ, true};
 ghost use Rattle.sshkey_model.specs.Certificates.{is_time};
 ghost use Rattle.sshkey_model.specs.Parts.{number};
 ghost use Rattle.std.specs.Int.{w64};
-ghost use Rattle.sshkey_base.specs.Answers.{AnswersAlways};
+ghost use Rattle.sshkey_base.specs.Judgements.{AnswersAlways};
 ghost use Rattle.sshkey_base.specs.Causes.{cause};
 ghost use Rattle.sshkey_model.specs.Certificates.{time_from, time_format};
 
@@ -59,7 +59,7 @@ impl From<UnixTime> for u64 {
 }
 
 /// Eight bytes, most significant first. Fails with `Time` above 2^63 - 1. Does not allocate.
-#[tactic(auto, using(sshkey_base::proofs::Steps::steps, sshkey_base::proofs::Judging::judged, sshkey_base::proofs::Stopping::stopping, crate::proofs::Lawful::time_lawful))]
+#[tactic(auto, using(sshkey_base::proofs::Steps::steps, sshkey_base::proofs::Steps::judged, sshkey_base::proofs::Stopping::stopping, crate::proofs::Lawful::time_lawful))]
 impl Decode for UnixTime {
     ghost use Rattle.sshkey_cert_values.specs.CertificateFields.{time_of};
 

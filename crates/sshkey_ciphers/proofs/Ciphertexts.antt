@@ -5,8 +5,7 @@ use Rattle.std.proofs.lemmas.Slice.Eq.{bytes_eq-Decides}
 use Rattle.sshkey_model.specs.PrivateKeys.{rising}
 use Rattle.std.proofs.lemmas.Bool.{le-ltb}
 use Rattle.sshkey_model.specs.Reading.{bytes_at}
-use Rattle.sshkey_base.specs.Source.{Source}
-use Rattle.sshkey_base.specs.Reading.{Reads}
+use Rattle.sshkey_base.specs.Reading.{Source, Reads}
 use Rattle.sshkey_ciphers.specs.Formats.{tag_bytes}
 
 -- the first of seven numbers

@@ -1,9 +1,9 @@
 //! Ciphers of private keys.
 
 ghost use Rattle.std.specs.Prelude.{◌≡◌, ◌≢◌, ◌↔◌, IsTrue, Some, if◌then◌else◌};
-ghost use Rattle.sshkey_base.specs.Answers.{NamesAlways};
+ghost use Rattle.sshkey_base.specs.Judgements.{NamesAlways};
 ghost use Rattle.sshkey_base.specs.Causes.{Faulty, cause, encoding_cause};
-ghost use Rattle.sshkey_base.specs.Labels.{AsksNamed, LooksUp, LooksUpAlways};
+ghost use Rattle.sshkey_base.specs.Names.{AsksNamed, LooksUp, LooksUpAlways};
 ghost use Rattle.sshkey_model.specs.Needs.{NoNeed};
 ghost use Rattle.sshkey_model.specs.KeyDerivation.{Cipher as TheCipher, NoCipher, cipher_name, block_size, tag_size, padding_length};
 ghost use Rattle.sshkey_model.specs.Parts.{Any};

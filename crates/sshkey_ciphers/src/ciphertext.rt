@@ -1,13 +1,11 @@
 //! Ciphertexts of whole blocks, and their tags.
 
 ghost use Rattle.std.specs.Prelude.{◌≡◌, ◌%◌, IfOk, length};
-ghost use Rattle.sshkey_base.specs.Answers.{AnswersAlways};
+ghost use Rattle.sshkey_base.specs.Judgements.{AnswersAlways};
 ghost use Rattle.sshkey_base.specs.Causes.{cause};
-ghost use Rattle.sshkey_base.specs.Needs.{Asks};
+ghost use Rattle.sshkey_base.specs.Reading.{Asks, Gives, Later};
 ghost use Rattle.sshkey_model.specs.Needs.{NoNeed, NeedsString};
-ghost use Rattle.sshkey_base.specs.Reading.{Gives};
-ghost use Rattle.sshkey_base.specs.Source.{Later};
-ghost use Rattle.sshkey_base.specs.Stops.{StopsBy};
+ghost use Rattle.sshkey_base.specs.Formats.{StopsBy};
 ghost use Rattle.sshkey_model.specs.Overruns.{NoOverrun, OverrunsString};
 ghost use Rattle.sshkey_model.specs.KeyDerivation.{block_size, tag_size};
 ghost use Rattle.sshkey_model.specs.Reading.{bytes_at};

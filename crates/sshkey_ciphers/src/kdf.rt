@@ -2,13 +2,11 @@
 
 ghost use Rattle.rand_core.specs.Stream.{fill_bytes};
 ghost use Rattle.std.specs.Prelude.{◌≡◌, ◌≢◌, ◌↔◌, ◌+◌, ◌*◌, ◌^◌, IsTrue, OnOk, OnErr, IfOk, IfErr, IsOk};
-ghost use Rattle.sshkey_base.specs.Answers.{Answers, AnswersAlways};
+ghost use Rattle.sshkey_base.specs.Judgements.{Answers, AnswersAlways};
 ghost use Rattle.sshkey_base.specs.Causes.{cause};
 ghost use Rattle.sshkey_base.specs.Formats.{Stops};
-ghost use Rattle.sshkey_base.specs.Needs.{Asks};
+ghost use Rattle.sshkey_base.specs.Reading.{Asks, Gives, Later};
 ghost use Rattle.sshkey_model.specs.Needs.{NoNeed};
-ghost use Rattle.sshkey_base.specs.Reading.{Gives};
-ghost use Rattle.sshkey_base.specs.Source.{Later};
 ghost use Rattle.sshkey_base.specs.declared.error.Error.TheVariants as wide;
 ghost use Rattle.sshkey_model.specs.KeyDerivation.{Kdf as TheKdf, NoKdf, BcryptDerivation, kdf, bcrypt_options, derivation};
 ghost use Rattle.sshkey_model.specs.Parts.{Any};
@@ -124,7 +122,7 @@ impl Default for Kdf {
 /// Fails with `Length` if a stated length exceeds what is left, with `Label` for another name, with
 /// `AlgorithmUnknown` if the options of `none` are not empty, and with `TrailingData` for bytes
 /// after the rounds in their string.
-#[tactic(auto, using(crate::proofs::Lawful::kdf_lawful, sshkey_terms::proofs::Chosen::chosen, crate::proofs::Lawful::kdf_chosen, sshkey_base::proofs::Lengths::label_lengths))]
+#[tactic(auto, using(crate::proofs::Lawful::kdf_lawful, sshkey_terms::proofs::Records::chosen, crate::proofs::Lawful::kdf_chosen, sshkey_base::proofs::Lengths::label_lengths))]
 impl Decode for Kdf {
     type Error = Error;
 
@@ -160,7 +158,7 @@ fn options_from<R: Reader>(alloc: Global, reader: &mut R, algorithm: KdfAlg) -> 
 }
 
 /// The number 0.
-#[tactic(auto, using(sshkey_base::proofs::Steps::steps, sshkey_base::proofs::Stopping::stopping, sshkey_base::proofs::Judging::judged, sshkey_base::proofs::Judging::judged_asks))]
+#[tactic(auto, using(sshkey_base::proofs::Steps::steps, sshkey_base::proofs::Stopping::stopping, sshkey_base::proofs::Steps::judged, sshkey_base::proofs::Steps::judged_asks))]
 fn none_from<R: Reader>(alloc: Global, reader: &mut R) -> Result<Kdf>
     ensures gives { Gives kdf_of cause none_format.read
         (R.source reader.old) result (R.source reader.new) }
@@ -183,7 +181,7 @@ fn check_none(len: u32) -> Result<Kdf>
 }
 
 /// A string of salt and rounds.
-#[tactic(auto, using(sshkey_terms::proofs::Mapped::mapped, crate::proofs::Lawful::bcrypt_parts_read))]
+#[tactic(auto, using(sshkey_terms::proofs::Records::mapped, crate::proofs::Lawful::bcrypt_parts_read))]
 fn bcrypt_from<R: Reader>(alloc: Global, reader: &mut R) -> Result<Kdf>
     ensures gives { Gives kdf_of cause bcrypt_format.read
         (R.source reader.old) result (R.source reader.new) }

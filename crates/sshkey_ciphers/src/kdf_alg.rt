@@ -1,9 +1,9 @@
 //! Names of key derivations.
 
 ghost use Rattle.std.specs.Prelude.{◌≡◌, ◌↔◌, IsTrue, Some};
-ghost use Rattle.sshkey_base.specs.Answers.{NamesAlways};
+ghost use Rattle.sshkey_base.specs.Judgements.{NamesAlways};
 ghost use Rattle.sshkey_base.specs.Causes.{Faulty, cause, encoding_cause};
-ghost use Rattle.sshkey_base.specs.Labels.{AsksNamed, LooksUp, LooksUpAlways};
+ghost use Rattle.sshkey_base.specs.Names.{AsksNamed, LooksUp, LooksUpAlways};
 ghost use Rattle.sshkey_model.specs.Needs.{NoNeed};
 ghost use Rattle.sshkey_model.specs.KeyDerivation.{KdfAlgorithm, NoDerivation, BcryptDerivation, kdf_name};
 ghost use Rattle.sshkey_model.specs.Parts.{Any};

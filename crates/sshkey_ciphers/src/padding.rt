@@ -3,12 +3,10 @@
 ghost use Rattle.std.specs.Prelude.{◌≡◌, IfOk, length, suc};
 ghost use Rattle.std.specs.Str.{bytes_eq};
 ghost use Rattle.sshkey_base.specs.Causes.{cause};
-ghost use Rattle.sshkey_base.specs.Needs.{Asks};
+ghost use Rattle.sshkey_base.specs.Reading.{Asks, Gives, IsSound, Later};
 ghost use Rattle.sshkey_model.specs.Needs.{NoNeed};
-ghost use Rattle.sshkey_base.specs.Reading.{Gives};
 ghost use Rattle.sshkey_model.specs.Reading.{to_end};
 ghost use Rattle.sshkey_base.specs.Sink.{Encodes};
-ghost use Rattle.sshkey_base.specs.Source.{IsSound, Later};
 ghost use Rattle.sshkey_model.specs.Parts.{bytes};
 ghost use Rattle.sshkey_model.specs.PrivateKeys.{rising, padded, padding};
 ghost use Rattle.sshkey_ciphers.specs.Formats.{padding_end};

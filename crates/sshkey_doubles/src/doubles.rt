@@ -4,8 +4,7 @@ ghost use Rattle.rand_core.specs.Steps.{stream_of, steps_u64_low};
 ghost use Rattle.std.specs.Prelude.{◌≡◌, ◌+◌, ◌%◌, ◌^◌, true, false};
 ghost use Rattle.sshkey_base.specs.Names.{algorithm_of};
 ghost use Rattle.sshkey_base.specs.declared.error.Error.TheVariants as wide;
-ghost use Rattle.sshkey_keys.specs.KeyKinds.{is_ed25519};
-ghost use Rattle.sshkey_keys.specs.Keys.{key_of};
+ghost use Rattle.sshkey_keys.specs.Keys.{is_ed25519, key_of};
 ghost use Rattle.sshkey_doubles.specs.Doubles.{is_asked};
 
 use rand_core::utils::NextWord;

@@ -27,7 +27,7 @@ impl<'s> Faulty<'s> {
     }
 }
 
-#[tactic(auto, using(sshkey_base::proofs::NestedSources::part_advances))]
+#[tactic(auto, using(sshkey_base::proofs::Places::part_advances))]
 impl Reader for Faulty<'_> {
     ghost source = { λ s. record { left = s.bytes.now; missing = s.missing; outer = [] } };
 

@@ -3,7 +3,7 @@ use Rattle.std.proofs.Common.{◌≡◌, ◌≢◌, ◌%◌, ℕ, suc, List, [],
 use Rattle.std.specs.Int.{w32, to_be_bytes}
 use Rattle.std.specs.Prelude.{nat_le, nat_lt}
 use Rattle.std.proofs.lemmas.Bool.{and_parts}
-use Rattle.sshkey_base.specs.Source.{Source, Advances, IsSound}
+use Rattle.sshkey_base.specs.Reading.{Source, Advances, IsSound}
 use Rattle.sshkey_base64.specs.Words64.{IsSourceOf}
 use Rattle.sshkey_base64.proofs.GoodBytes.{length_word}
 use Rattle.sshkey_model.specs.Keys.{Key, Head, Plain, Head256, Head512, headed, body, key_algorithm, SpellsKey}

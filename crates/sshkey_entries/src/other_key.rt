@@ -1,7 +1,7 @@
 //! A key's fields whose key is of a kind that is none here.
 
 ghost use Rattle.std.specs.Prelude.{◌≡◌, ◌++◌, ◌≤◌, ◌↔◌, List, ℕ, IsTrue, IsSome, length, true};
-ghost use Rattle.sshkey_base.specs.Source.{Advances, IsSound};
+ghost use Rattle.sshkey_base.specs.Reading.{Advances, IsSound};
 ghost use Rattle.sshkey_model.specs.Names.{algorithm_name, algorithms, named};
 ghost use Rattle.sshkey_model.specs.Parts.{are_bytes, flat};
 ghost use Rattle.sshkey_model.specs.Texts.{string};

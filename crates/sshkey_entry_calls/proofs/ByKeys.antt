@@ -8,13 +8,13 @@ use Rattle.sshkey_calls.specs.declared.digest.Sha256Digest.{Sha256Digest}
 use Rattle.sshkey_calls.proofs.Validations.{same_asking}
 use Rattle.sshkey_fingerprints.specs.Fingerprints.{digest_of}
 use Rattle.sshkey_fingerprints.specs.declared.fingerprint.Fingerprint as code
-use Rattle.sshkey_keys.specs.Fingerprints.{IsFingerprint}
+use Rattle.sshkey_keys.specs.Keys.{IsFingerprint}
 use Rattle.sshkey_model.specs.Fingerprints.{Fingerprint, same_fingerprint}
 use Rattle.sshkey_model.specs.Names.{Sha256}
 use Rattle.sshkey_model.specs.SignedMessages.{signed_by}
 use Rattle.sshkey_model.specs.SshSignatures.{SshSignature}
 use Rattle.sshkey_model.specs.Verification.{Question, is_yes, question}
-use Rattle.sshkey_sshsig.specs.SshSignatureReaders.{SpellsSshSignature}
+use Rattle.sshkey_sshsig.specs.SshSignatureFormats.{SpellsSshSignature}
 use Rattle.sshkey_entry_calls.specs.SshSignatures.{SaysOf, IsJudgedByKeys, TellsByKeys, is_by}
 use Rattle.sshkey_entry_calls.proofs.SignerVerdicts.{back, there}
 

@@ -1,6 +1,6 @@
 -- Which keys are of DSA, by their parts.
 use Rattle.std.proofs.Common.{◌≡◌, true, false, ap, refl, sym}
-use Rattle.sshkey_keys.specs.KeyKinds.{is_dsa, is_opaque}
+use Rattle.sshkey_keys.specs.Keys.{is_dsa, is_opaque}
 use Rattle.sshkey_keys_ref.specs.Keys.{Means}
 use Rattle.sshkey_keys_ref.specs.declared.key_ref.KeyRef.{KeyRef}
 use Rattle.sshkey_keys_ref.specs.declared.key_ref.KeyRef.TheVariants as kinds

@@ -12,7 +12,7 @@ use Rattle.sshkey_model.specs.SshSignatures.{SshSignature}
 use Rattle.sshkey_model.specs.Verification.{Question, question}
 use Rattle.sshkey_model.specs.Verification as model
 use Rattle.sshkey_revoked_keys.specs.declared.revoked_keys.RevokedKeys.{RevokedKeys}
-use Rattle.sshkey_sshsig.specs.SshSignatureReaders.{SpellsSshSignature}
+use Rattle.sshkey_sshsig.specs.SshSignatureFormats.{SpellsSshSignature}
 use Rattle.sshkey_entry_calls.specs.Revocations.{AreReadOf, one_revokes_key, revoked_status}
 use Rattle.sshkey_entry_calls.specs.SshSignatures.{IsJudged, SaysOf, TellsSigner, verdict_status}
 

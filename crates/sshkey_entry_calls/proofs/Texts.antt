@@ -1,7 +1,7 @@
 -- What is answered of a text that is no armour, or for which memory was out.
 use Rattle.std.proofs.Common.{◌≡◌, ℕ, List, arith, inl, inr, refl, ◌∙◌, ap, Bool, true, false}
 use Rattle.sshkey_base.specs.declared.error.Error.{Error}
-use Rattle.sshkey_base64.specs.ArmourReading.{IsUnread}
+use Rattle.sshkey_base64.specs.Armour.{IsUnread}
 use Rattle.sshkey_base64.proofs.ArmourBodies.{no_armour}
 use Rattle.sshkey_calls.specs.Numbers.{error_status}
 use Rattle.sshkey_calls.proofs.Rooms.{no_memory, none_given}

@@ -5,14 +5,14 @@ use Rattle.std.specs.Prelude.{◌≡◌, ◌≢◌, ℕ, List, Bool, Some, Resul
 use Rattle.allowed_signers.specs.AllowedSigners.{Counts, HasSignature, IsWhy, HasSigned}
 use Rattle.allowed_signers.specs.declared.signers.SignerRefusal.{SignerRefusal}
 use Rattle.allowed_signers.specs.declared.signers.SignerRefusal.TheVariants.{Memory, NoIdentity, NoSignature, NotAllowed, NotVerified, Revoked}
-use Rattle.sshkey_base.specs.Acceptance.{SpellsSome}
+use Rattle.sshkey_base.specs.Judgements.{SpellsSome}
 use Rattle.sshkey_base.specs.declared.error.Error.{Error}
 use Rattle.sshkey_calls.specs.Validations.{SaysWhether, is_yes_number}
 use Rattle.sshkey_model.specs.SignedMessages.{signed_by}
 use Rattle.sshkey_model.specs.SshSignatures.{SshSignature}
 use Rattle.sshkey_model.specs.Verification.{Question, question}
 use Rattle.sshkey_revoked_keys.specs.declared.revoked_keys.RevokedKeys.{RevokedKeys}
-use Rattle.sshkey_sshsig.specs.SshSignatureReaders.{SpellsSshSignature}
+use Rattle.sshkey_sshsig.specs.SshSignatureFormats.{SpellsSshSignature}
 use Rattle.sshkey_entry_calls.specs.Revocations.{AreReadOf, one_revokes_key, revoked_status}
 use Rattle.std.specs.List.{list_any}
 use Rattle.sshkey_model.specs.Fingerprints.{Fingerprint, fingerprint, same_fingerprint}

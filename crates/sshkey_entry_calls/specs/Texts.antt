@@ -2,8 +2,7 @@
 use Rattle.std.specs.Prelude.{◌≡◌, ◌⊎◌, ℕ, List}
 use Rattle.sshkey_fingerprints.specs.RandomArt.{picture}
 use Rattle.sshkey_model.specs.Names.{Sha256}
-use Rattle.sshkey_base64.specs.Armour.{Encloses, IsArmour}
-use Rattle.sshkey_base64.specs.ArmourReading.{HasOtherBody}
+use Rattle.sshkey_base64.specs.Armour.{Encloses, IsArmour, HasOtherBody}
 use Rattle.sshkey_calls.specs.Writing.{WritesContent}
 
 -- 0 and the bytes of the armour, or 2 where the room is too short for them. Of a text that is none

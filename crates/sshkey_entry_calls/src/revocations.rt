@@ -1,7 +1,7 @@
 //! Whether revocation files leave a key or a certificate unrevoked.
 
 ghost use Rattle.std.specs.Prelude.{◌≡◌, ◌≢◌, Bool, Err, IfErr, IfOk, IsErrAnd};
-ghost use Rattle.sshkey_base.specs.Acceptance.{SpellsSome};
+ghost use Rattle.sshkey_base.specs.Judgements.{SpellsSome};
 ghost use Rattle.sshkey_base.specs.Causes.{Faulty, NoMemory, cause};
 ghost use Rattle.sshkey_keys.specs.Keys.{key_of};
 ghost use Rattle.sshkey_krl.specs.Revocations as values;

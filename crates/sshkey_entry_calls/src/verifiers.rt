@@ -1,7 +1,7 @@
 //! The keys whose signatures count.
 
 ghost use Rattle.std.specs.Prelude.{◌≡◌};
-ghost use Rattle.sshkey_keys.specs.KeyKinds.{is_dsa};
+ghost use Rattle.sshkey_keys.specs.Keys.{is_dsa};
 ghost use Rattle.sshkey_keys_ref.specs.Keys.{key_bytes};
 ghost use Rattle.sshkey_model.specs.Keys.{Key, SpellsKey};
 ghost use Rattle.sshkey_entry_calls.specs.Trust.{verifier_number};

@@ -1,6 +1,6 @@
 -- From a verdict to an answer.
 use Rattle.std.proofs.Common.{◌≡◌, ◌↔◌, Bool, true, false, Result, Ok, Err, IsTrue, IfOk, refl, inl, inr}
-use Rattle.ssh_key.specs.base.Acceptance.{AcceptsExactly}
+use Rattle.ssh_key.specs.base.Judgements.{AcceptsExactly}
 use Rattle.ssh_key.specs.types.Error.{Error}
 use Rattle.sshkey_examples.specs.Signed.{AnswersYesOrNo}
 

@@ -2,7 +2,7 @@
 use Rattle.std.proofs.Common.{◌≡◌, ◌≢◌, ℕ, List, Bool, Result, Ok, Err, IfErr, refl, ap, inl, inr}
 use Rattle.std.specs.Prelude.{IsErrAnd}
 use Rattle.ssh_key.specs.base.Causes.{Faulty, NoMemory, cause}
-use Rattle.ssh_key.specs.base.Source.{IsSound, all_of}
+use Rattle.ssh_key.specs.base.Reading.{IsSound, all_of}
 use Rattle.ssh_key.specs.model.Reading.{Fault}
 use Rattle.ssh_key.specs.terms.Slices.{Keeps}
 use Rattle.ssh_key.specs.types.Error.{Error}

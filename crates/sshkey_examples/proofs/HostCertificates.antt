@@ -1,7 +1,7 @@
 -- Why a host's certificate is refused, or accepted.
 use Rattle.std.proofs.Common.{◌≡◌, ◌≢◌, ℕ, List, Bool, Result, Ok, Err, IfErr, inr, sym, ap, subst, ◌∙◌}
 use Rattle.std.specs.Prelude.{IsErrAnd}
-use Rattle.ssh_key.specs.base.Acceptance.{AcceptsExactly}
+use Rattle.ssh_key.specs.base.Judgements.{AcceptsExactly}
 use Rattle.ssh_key.specs.base.Causes.{Faulty, NoMemory, cause}
 use Rattle.ssh_key.specs.cert.Validity.{JudgesCertificateFor, fingerprints_of}
 use Rattle.ssh_key.specs.terms.Slices.{Keeps}

@@ -1,10 +1,9 @@
 -- What one line decides, and what all do.
 use Rattle.std.proofs.Common.{◌≡◌, ◌≢◌, ◌↔◌, ℕ, List, [], ◌∷◌, Bool, true, false, Option, Some, None, Result, Ok, Err, IfErr, IfOk, IsTrue, is_some, refl, subst, sym, inl, inr}
 use Rattle.std.specs.Prelude.{String, option_map, string_bytes}
-use Rattle.ssh_key.specs.base.Acceptance.{AcceptsExactly, SpellsSome}
+use Rattle.ssh_key.specs.base.Judgements.{AcceptsExactly, SpellsSome}
 use Rattle.ssh_key.specs.base.Causes.{NoMemory, cause}
-use Rattle.ssh_key.specs.base.Reading.{NoSpelling}
-use Rattle.ssh_key.specs.base.Source.{IsSound, all_of}
+use Rattle.ssh_key.specs.base.Reading.{NoSpelling, IsSound, all_of}
 use Rattle.ssh_key.specs.entries.AuthorizedKeys.{AuthorizedKey}
 use Rattle.ssh_key.specs.entries.Entries.{IsNoEntry}
 use Rattle.ssh_key.specs.entries.Fields.{filled_lines}
@@ -14,8 +13,7 @@ use Rattle.ssh_key.specs.krl.Revocations.{is_key_revoked}
 use Rattle.ssh_key.specs.model.Keys.{IsKey, Key}
 use Rattle.ssh_key.specs.model.SshSignatures.{SshSignature}
 use Rattle.ssh_key.specs.model.Verification.{Question}
-use Rattle.ssh_key.specs.sshsig.SshSignatureFormats.{ssh_signature_format}
-use Rattle.ssh_key.specs.sshsig.SshSignatureReaders.{SpellsSshSignature}
+use Rattle.ssh_key.specs.sshsig.SshSignatureFormats.{ssh_signature_format, SpellsSshSignature}
 use Rattle.ssh_key.specs.types.Error.{Error}
 use Rattle.ssh_key.specs.types.Error.TheVariants.{Memory}
 use Rattle.ssh_key.proofs.Acceptance.{other_cause}

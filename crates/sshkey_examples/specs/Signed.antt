@@ -1,6 +1,6 @@
 -- What a verifier of signatures learns.
 use Rattle.std.specs.Prelude.{◌≡◌, ◌≢◌, ◌⊎◌, ℕ, List, Bool, true, false, IsErrAnd, Result, Ok, Err}
-use Rattle.ssh_key.specs.base.Acceptance.{SpellsSome}
+use Rattle.ssh_key.specs.base.Judgements.{SpellsSome}
 use Rattle.ssh_key.specs.base.Causes.{Faulty, cause}
 use Rattle.ssh_key.specs.types.Error.{Error}
 use Rattle.ssh_key.specs.types.Error.TheVariants.{Memory}

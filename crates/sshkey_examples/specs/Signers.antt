@@ -1,6 +1,6 @@
 -- Which of the keys in a text like authorized_keys has signed.
 use Rattle.std.specs.Prelude.{◌≡◌, ◌≢◌, ◌⊎◌, ℕ, List, [], ◌∷◌, Bool, true, false, Option, Some, None, Result, Ok, Err, String, IsErrAnd, option_map, string_bytes}
-use Rattle.ssh_key.specs.base.Acceptance.{SpellsSome}
+use Rattle.ssh_key.specs.base.Judgements.{SpellsSome}
 use Rattle.ssh_key.specs.base.Causes.{Faulty, cause}
 use Rattle.ssh_key.specs.entries.AuthorizedKeys.{AuthorizedKey}
 use Rattle.ssh_key.specs.entries.Fields.{filled_lines}
@@ -10,8 +10,7 @@ use Rattle.ssh_key.specs.model.Reading.{whole}
 use Rattle.ssh_key.specs.model.SignedMessages.{IsVerified}
 use Rattle.ssh_key.specs.model.SshSignatures.{SshSignature}
 use Rattle.ssh_key.specs.model.Verification.{Question}
-use Rattle.ssh_key.specs.sshsig.SshSignatureFormats.{ssh_signature_format}
-use Rattle.ssh_key.specs.sshsig.SshSignatureReaders.{SpellsSshSignature, ssh_signature_value_at}
+use Rattle.ssh_key.specs.sshsig.SshSignatureFormats.{ssh_signature_format, SpellsSshSignature, ssh_signature_value_at}
 use Rattle.ssh_key.specs.types.Error.{Error}
 use Rattle.ssh_key.specs.types.Error.TheVariants.{Memory}
 

@@ -1,7 +1,7 @@
 //! A question of whoever connects to a host: is the certificate that it shows good for its name?
 
 ghost use Rattle.std.specs.Prelude.{◌≡◌, ◌≢◌, IfErr};
-ghost use Rattle.ssh_key.specs.base.Acceptance.{AcceptsExactly};
+ghost use Rattle.ssh_key.specs.base.Judgements.{AcceptsExactly};
 ghost use Rattle.ssh_key.specs.cert.Validity.{fingerprints_of};
 ghost use Rattle.ssh_key.specs.cert_ref.CertificateRef.{certificate_of};
 ghost use Rattle.ssh_key.specs.types.Error.TheVariants.{Memory};

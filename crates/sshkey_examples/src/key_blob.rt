@@ -4,11 +4,9 @@ ghost use Rattle.std.specs.Prelude.{◌≡◌, ◌≢◌, ◌||◌, IfErr, IsErr
 ghost use Rattle.ssh_key.specs.model.Keys.{Key, SpellsKey, key_data_at};
 ghost use Rattle.ssh_key.specs.model.Reading.{whole};
 ghost use Rattle.ssh_key.specs.base.Causes.{Faulty, NoMemory, cause};
-ghost use Rattle.ssh_key.specs.base.Reading.{AcceptsWhole};
-ghost use Rattle.ssh_key.specs.base.Source.{all_of};
-ghost use Rattle.ssh_key.specs.keys.KeyKinds.{is_ecdsa, is_ed25519};
-ghost use Rattle.ssh_key.specs.keys.Keys.{key_of};
-ghost use Rattle.ssh_key.specs.base.Acceptance.{SpellsSome};
+ghost use Rattle.ssh_key.specs.base.Reading.{AcceptsWhole, all_of};
+ghost use Rattle.ssh_key.specs.keys.Keys.{is_ecdsa, is_ed25519, key_of};
+ghost use Rattle.ssh_key.specs.base.Judgements.{SpellsSome};
 
 use ssh_key::Result;
 use ssh_key::public::{KeyData, KeyDataRef};

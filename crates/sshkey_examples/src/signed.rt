@@ -3,7 +3,7 @@
 ghost use Rattle.std.specs.Prelude.{◌≡◌, ◌↔◌, IsTrue, IfErr, IfOk};
 ghost use Rattle.ssh_key.specs.keys.Keys.{key_of};
 ghost use Rattle.ssh_key.specs.model.Signatures.{SpellsSignature};
-ghost use Rattle.ssh_key.specs.base.Acceptance.{AcceptsExactly, SpellsSome};
+ghost use Rattle.ssh_key.specs.base.Judgements.{AcceptsExactly, SpellsSome};
 ghost use Rattle.ssh_key.specs.types.Error.TheVariants.{Memory};
 ghost use Rattle.sshkey_examples.specs.Signed.{AnswersYesOrNo, HasFault, NeedsMemory, SpellsAcceptedSignature};
 

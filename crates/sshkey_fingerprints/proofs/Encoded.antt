@@ -7,13 +7,12 @@ use Rattle.base64.specs.Rfc4648.{encode_symbols}
 use Rattle.base64.specs.declared.decode.DecodeError.{DecodeError}
 use Rattle.base64.proofs.EngineFacts.{decode_of-encode_of}
 use Rattle.base64.proofs.RoundTrip.{length-encode_symbols}
-use Rattle.sshkey_base.specs.Digests.{digest_len}
+use Rattle.sshkey_base.specs.Names.{digest_len}
 use Rattle.sshkey_base.specs.declared.error.Error.{Error}
 use Rattle.sshkey_model.specs.Fingerprints.{fingerprint_prefix}
 use Rattle.sshkey_model.specs.Names.{Hash}
 use Rattle.sshkey_model.specs.Names as names
-use Rattle.sshkey_fingerprints.specs.Fingerprints.{fingerprint_hash, digest_of, shown}
-use Rattle.sshkey_fingerprints.specs.FingerprintTexts.{IsWhole, IsNoFingerprint, IsEncoded, IsRefusedDigest, IsRefusedText}
+use Rattle.sshkey_fingerprints.specs.Fingerprints.{fingerprint_hash, digest_of, shown, IsWhole, IsNoFingerprint, IsEncoded, IsRefusedDigest, IsRefusedText}
 use Rattle.sshkey_fingerprints.specs.declared.fingerprint.Fingerprint.{Fingerprint}
 use Rattle.sshkey_fingerprints.specs.declared.fingerprint.Fingerprint.TheVariants as kinds
 

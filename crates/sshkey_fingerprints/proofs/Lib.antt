@@ -1,7 +1,4 @@
 pub mod ShortParts
 pub mod Encoded
-pub mod Walking
-pub mod Shades
-pub mod Rows
-pub mod Titles
+pub mod Walks
 pub mod Pictures

@@ -1,6 +1,4 @@
 pub mod Fingerprints
-pub mod FingerprintTexts
 pub mod RandomArt
-pub mod Walks
 pub mod Pictures
 pub mod ArtExample

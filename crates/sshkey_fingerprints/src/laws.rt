@@ -2,8 +2,7 @@
 
 ghost use Rattle.std.specs.Prelude.{◌≡◌};
 ghost use Rattle.sshkey_base.specs.Comparisons.{IsEqualityOf, IsOrderOf};
-ghost use Rattle.sshkey_fingerprints.specs.FingerprintTexts.{IsWhole};
-ghost use Rattle.sshkey_fingerprints.specs.Fingerprints.{fingerprint_key, shown};
+ghost use Rattle.sshkey_fingerprints.specs.Fingerprints.{IsWhole, fingerprint_key, shown};
 ghost use Rattle.sshkey_fingerprints.specs.declared.fingerprint.Fingerprint.{Fingerprint};
 
 use crate::fingerprint::Fingerprint;

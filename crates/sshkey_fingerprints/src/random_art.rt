@@ -51,7 +51,7 @@ fn along(edge: usize, is_on: bool, place: usize) -> usize
 }
 
 impl Cell {
-    ghost use Rattle.sshkey_fingerprints.specs.Walks.{cell_of, index};
+    ghost use Rattle.sshkey_fingerprints.specs.Pictures.{cell_of, index};
 
     /// The middle of the field.
     fn start() -> Cell
@@ -88,7 +88,7 @@ struct Walk {
 }
 
 impl Walk {
-    ghost use Rattle.sshkey_fingerprints.specs.Walks.{IsWalk};
+    ghost use Rattle.sshkey_fingerprints.specs.Pictures.{IsWalk};
 
     /// No step is taken.
     fn new() -> Walk
@@ -131,7 +131,7 @@ pub(crate) struct RandomArt {
 }
 
 impl RandomArt {
-    ghost use Rattle.sshkey_fingerprints.specs.Walks.{IsArtOf};
+    ghost use Rattle.sshkey_fingerprints.specs.Pictures.{IsArtOf};
 
     /// The art of a digest.
     pub(crate) fn new(digest: &[u8]) -> RandomArt
@@ -171,7 +171,7 @@ fn write_row<W: fmt::Write>(shades: &[u8], f: &mut fmt::Formatter<W>) -> fmt::Re
 
 /// The nine rows.
 impl fmt::Display for RandomArt {
-    ghost use Rattle.sshkey_fingerprints.specs.Walks.{rows_of};
+    ghost use Rattle.sshkey_fingerprints.specs.Pictures.{rows_of};
 
     ghost output = { λ art. Some (rows_of art) };
 

@@ -6,16 +6,15 @@ use Rattle.sshkey_model.specs.Keys.{Key, any_ecdsa_format, body_at, ecdsa_format
 use Rattle.sshkey_model.specs.Names.{Algorithm, Curve}
 use Rattle.sshkey_model.proofs.KeyReaders.{body_reads}
 use Rattle.sshkey_base.specs.declared.error.Error.{Error}
-use Rattle.sshkey_base.specs.Reading.{AcceptsFront, Gives, Reads}
+use Rattle.sshkey_base.specs.Reading.{AcceptsFront, Gives, Reads, Source}
 use Rattle.sshkey_base.specs.Causes.{Cause, cause}
 use Rattle.sshkey_model.specs.Needs.{NoNeed}
-use Rattle.sshkey_base.specs.Source.{Source}
-use Rattle.sshkey_base.specs.Stops.{Stopped}
+use Rattle.sshkey_base.specs.Formats.{Stopped}
 use Rattle.sshkey_base.proofs.Accepted.{accepts_front}
 use Rattle.sshkey_terms.proofs.Lawful.{checked_read}
 use Rattle.sshkey_keys.proofs.KeyReaders.{body_grammar}
 use Rattle.sshkey_kinds.proofs.Lawful.{any_ecdsa_lawful}
-use Rattle.sshkey_terms.proofs.Tested.{tested_stopped}
+use Rattle.sshkey_terms.proofs.Records.{tested_stopped}
 use Rattle.sshkey_keys.specs.declared.key_data.KeyData.{KeyData}
 use Rattle.sshkey_keys.specs.declared.key_data.KeyData.TheVariants as kinds
 use Rattle.sshkey_keys.specs.Keys.{stored_algorithm, key_of}

@@ -1,11 +1,6 @@
-pub mod OwnAlgorithms
-pub mod OpaqueNames
+pub mod OpaqueKeys
 pub mod SignatureForms
-pub mod SignatureParts
-pub mod BoxedKeys
-pub mod Bodies
-pub mod WrittenParts
-pub mod TrailedBlobs
 pub mod KeyReaders
+pub mod Bodies
 pub mod SignatureReaders
 pub mod Lawful

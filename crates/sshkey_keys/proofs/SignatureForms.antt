@@ -1,18 +1,25 @@
 -- What is taken as the bytes of a signature is well-formed, and the other way round.
-use Rattle.std.proofs.Common.{◌≡◌, ℕ, ◌≤◌, ◌-◌, None, Some, true, ltb, List, length, Result, Ok, Err, refl, sym, subst, arith}
+use Rattle.std.proofs.Common.{◌≡◌, ℕ, ◌≤◌, ◌-◌, None, Some, true, ltb, List, length, Result, Ok, Err, refl, sym, subst, arith, inl, inr, [], IsOk, ◌++◌, take, drop, append-nil, replicate, ◌+◌, ap, ◌∙◌}
 use Rattle.std.proofs.lemmas.Bool.{ltb-true, lt-ltb, ltb-false, le-ltb}
-use Rattle.std.proofs.lemmas.List.{length-take}
+use Rattle.std.proofs.lemmas.List.{length-take, take-append-drop, length-append, drop_at, drop-drop, take_at}
 use Rattle.sshkey_model.specs.Parts.{Any, bytes}
-use Rattle.sshkey_model.specs.Reading.{Fault, Length, ◌>>=◌, Whole}
+use Rattle.sshkey_model.specs.Reading.{Fault, Length, ◌>>=◌, Whole, number_at, bytes_at, string_at}
 use Rattle.sshkey_model.specs.Names.{Algorithm}
 use Rattle.sshkey_model.specs.Points.{field_size}
-use Rattle.sshkey_model.specs.Signatures.{IsSignatureBlob, without_trailer}
+use Rattle.sshkey_model.specs.Signatures.{IsSignatureBlob, without_trailer, has_trailer, string_from, trailed_at, signature_blob_at, ecdsa_blob_from, OverrunsBlob, OverrunsInside, OverrunsNumbers}
 use Rattle.sshkey_model.specs.Grammar.{Checks}
 use Rattle.sshkey_model.proofs.CombinedReaders.{bind_ok, passed, met, ok_is}
-use Rattle.sshkey_model.proofs.SignatureReaders.{ecdsa_blob_checks, sized_checks}
+use Rattle.sshkey_model.proofs.SignatureReaders.{ecdsa_blob_checks, sized_checks, signature_blob_reads}
 use Rattle.sshkey_base.proofs.Labels.{same_bytes}
 use Rattle.sshkey_terms.specs.Slices.{is_taken}
-use Rattle.sshkey_keys.specs.SignatureForms.{trailed_from, blob_from, is_blob}
+use Rattle.sshkey_keys.specs.SignatureForms.{trailed_from, blob_from, is_blob, NeedsTrailed}
+use Rattle.sshkey_base.specs.declared.error.Error.{Error}
+use Rattle.sshkey_base.specs.Causes.{cause}
+use Rattle.sshkey_base.specs.Reading.{Asks, Source}
+use Rattle.sshkey_model.specs.Needs.{NeedsString}
+use Rattle.sshkey_base.specs.Formats.{RanOut, StopsBy}
+use Rattle.std.proofs.lemmas.Slice.{take-put_mid, drop-put_mid}
+use borrow.Rule.Slice.PartMut.{put_mid}
 
 module _ {Is : List ℕ → Type 0} {judge : Whole (List ℕ)} (checks : Checks Any bytes Is bytes judge) where
   string_takes : (b x : List ℕ) → judge b ≡ Ok x → (x ≡ b) × Is b
@@ -62,3 +69,55 @@ well_formed a b e = go (blob_from a b) refl e
 
 pub tested : (a : Algorithm) (b : List ℕ) → IsSignatureBlob a b → is_blob a b ≡ true
 tested a b is = rw (blob_again a b is) refl
+
+-- What follows the name of an algorithm.
+
+-- a string of no bytes is refused if a trailer follows it
+none_before : (a : Algorithm) → has_trailer a ≡ true → IsOk (string_from a []) → ⊥
+unfolding ecdsa_blob_from string_at number_at bytes_at
+none_before Algorithm.SkEcdsa trailed ok = cc
+none_before Algorithm.SkEd25519 trailed ok = cc
+none_before _ trailed ok = cc
+
+-- so there memory is needed only for the bytes of the string
+module _ (a : Algorithm) (trailed : has_trailer a ≡ true) where
+  needs_string : (b : List ℕ) (m : ℕ) → NeedsTrailed (string_from a) b m → NeedsString b m
+  needs_string b m (inl needed) = needed
+  needs_string b m (inr empty) = absurd (none_before a trailed empty.1)
+
+  pub blob_asks : {X : Type 0} (s : Source) (r : Result X Error) → Asks cause (NeedsTrailed (string_from a)) s r → Asks cause NeedsString s r
+  blob_asks s (Ok x) h = tt
+  blob_asks s (Err e) h = λ memory sound. needs_string _ _ (h memory sound)
+
+  pub blob_stops : {X : Type 0} (s : Source) (r : Result X Error) → StopsBy cause (trailed_at (string_from a)) (NeedsTrailed (string_from a)) (OverrunsInside (OverrunsNumbers a) 5) s r → StopsBy cause (signature_blob_at a) NeedsString (OverrunsBlob a) s r
+  blob_stops s (Ok x) h = tt
+  blob_stops s (Err e) h = record {
+    takes = λ ok. more (h.takes (rw trailed at ok));
+    past = λ o. elim (h.past (rw trailed at o)) [
+      | inl is ↦ inl is
+      | inr m ↦ inr (more m)
+    ];
+  }
+    where
+      more : RanOut (cause e) (NeedsTrailed (string_from a)) s → RanOut (cause e) NeedsString s
+      more m = record { memory = m.memory; needed = needs_string _ _ m.needed }
+
+-- what is read is well-formed
+pub read_formed : (a : Algorithm) (b blob rest : List ℕ) → signature_blob_at a b ≡ Ok (blob, rest) → IsSignatureBlob a blob
+read_formed a b blob rest e = ((signature_blob_reads a).takes b blob rest e).0
+
+-- Two parts, written one after the other.
+
+put_after : (a z b : List ℕ) (n m : ℕ) → length a ≡ n → length b ≡ m → m ≤ length z → put_mid n m (a ++ z) b ≡ (a ++ b) ++ drop m z
+put_after a z b n m a-len b-len le =
+    let all : List ℕ = put_mid n m (a ++ z) b in
+    let within : n ≤ length (a ++ z) = omega (arith, length-append a z) in
+    let front : take (n + m) all ≡ a ++ b = take-put_mid n m (a ++ z) b (n + m) (omega arith) within ∙ ap (λ (w : List ℕ). w ++ b) (take_at a z n a-len) in
+    let after : drop (n + m) all ≡ drop m z = drop-put_mid n m (a ++ z) b (n + m) (omega arith) within b-len ∙ sym (drop-drop m n (a ++ z)) ∙ ap (drop m) (drop_at a z n a-len) in
+    sym (take-append-drop (n + m) all) ∙ rw (front, after) refl
+
+pub flagged_parts : (a t : List ℕ) → length a ≡ 32 → length t ≡ 5 → put_mid 32 5 (a ++ replicate 5 0) t ≡ a ++ t
+flagged_parts a t a-len t-len = put_after a (replicate 5 0) t 32 5 a-len t-len (omega arith) ∙ append-nil (a ++ t)
+
+pub signed_parts : (a b : List ℕ) → length a ≡ 37 → length b ≡ 32 → put_mid 37 32 (a ++ replicate 32 0) b ≡ a ++ b
+signed_parts a b a-len b-len = put_after a (replicate 32 0) b 37 32 a-len b-len (omega arith) ∙ append-nil (a ++ b)

@@ -1,13 +1,21 @@
--- Reading from a list of bytes, and making one.
-use Rattle.std.specs.Prelude.{◌≡◌, ℕ, List, Result, Ok, Err, ◌⊎◌, Vec}
-use Rattle.sshkey_model.specs.Parts.{Parts, flat, Fits, BoxesFit}
+-- A name that stands with its length before it (RFC 4251, section 5).
+use Rattle.std.specs.Prelude.{◌≡◌, ℕ, ◌<◌, ◌^◌, List, true, ◌++◌, length, Result, Ok, Err, ◌⊎◌, Vec}
+use Rattle.std.specs.Int.{w32, to_be_bytes}
+use Rattle.sshkey_model.specs.Parts.{are_bytes, Parts, flat, Fits, BoxesFit}
 use Rattle.sshkey_model.specs.Reading.{Front}
 use Rattle.sshkey_base.specs.declared.encoding.Error.TheVariants.{Length}
 use Rattle.sshkey_base.specs.declared.error.Error.{Error}
 use Rattle.sshkey_base.specs.declared.error.Error.TheVariants.{Encoding, Memory}
 use Rattle.sshkey_base.specs.Causes.{Cause}
-use Rattle.sshkey_base.specs.Source.{Source, all_of}
-use Rattle.sshkey_base.specs.Reading.{Gives, AcceptsFront}
+use Rattle.sshkey_base.specs.Reading.{Source, all_of, Gives, AcceptsFront}
+
+-- The bytes are the string of the name.
+pub record IsStringOf (name bytes : List ℕ) : Type 0 where
+  pub whole : bytes ≡ to_be_bytes w32 (length name) ++ name
+  pub short : length name < 2 ^ 32
+  pub are : are_bytes name ≡ true
+
+-- Reading from a list of bytes, and making one.
 
 -- A front of the bytes was read, whatever follows it.
 pub record ReadsFrontOf {X Y E : Type 0} (means : X → Y) (read : Front Y) (Spells : Y → List ℕ → Type 0) (cause : E → Cause) (b : List ℕ) (r : Result X E) : Type 0 where

@@ -1,11 +1,6 @@
 pub mod Keys
-pub mod KeyKinds
-pub mod NameStrings
-pub mod Comparisons
-pub mod Fingerprints
+pub mod Blobs
 pub mod SignatureForms
 pub mod Signatures
 pub mod Questions
-pub mod Verdicts
 pub mod Asked
-pub mod Blobs

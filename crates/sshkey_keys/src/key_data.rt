@@ -3,17 +3,13 @@
 ghost use Rattle.std.specs.Prelude.{◌≡◌, ◌≤◌, ◌+◌, ◌*◌, ◌^◌, ◌||◌, IfOk, IfErr, IsOk, IsTrue, None};
 ghost use Rattle.sshkey_model.specs.Keys.{Key, key_algorithm, normal_key, body, unhashed, IsKey, SpellsBody, body_format, key_format};
 ghost use Rattle.sshkey_model.specs.Lines.{key_name};
-ghost use Rattle.sshkey_base.specs.Reading.{AcceptsFront};
+ghost use Rattle.sshkey_base.specs.Reading.{AcceptsFront, Asks, Later};
 ghost use Rattle.sshkey_base.specs.Causes.{cause};
 ghost use Rattle.sshkey_base.specs.Names.{IsFixed, algorithm_of, curve_of, hash_of};
 ghost use Rattle.sshkey_model.specs.Names.{algorithm_name, Dsa, Ecdsa, Ed25519, Rsa, SkEcdsa, SkEd25519 as AlgorithmSkEd25519, Other};
 ghost use Rattle.sshkey_base.specs.Formats.{Stops};
-ghost use Rattle.sshkey_base.specs.Needs.{Asks};
-ghost use Rattle.sshkey_base.specs.Source.{Later};
 ghost use Rattle.sshkey_base.specs.Sink.{Encodes, Measures};
-ghost use Rattle.sshkey_keys.specs.Fingerprints.{GivesFingerprint, IsShort};
-ghost use Rattle.sshkey_keys.specs.Keys.{DecodesBody, key_of, stored_algorithm};
-ghost use Rattle.sshkey_keys.specs.KeyKinds.{is_ecdsa, is_ed25519};
+ghost use Rattle.sshkey_keys.specs.Keys.{GivesFingerprint, IsShort, DecodesBody, key_of, stored_algorithm, is_ecdsa, is_ed25519};
 
 mod certificate_name;
 mod from;
@@ -92,7 +88,7 @@ impl KeyData {
     /// key it is the one that its name tells.
     ///
     /// Fails only when out of memory, and only under a private-use name.
-    #[tactic(auto, using(crate::proofs::OwnAlgorithms::well_formed_algorithm))]
+    #[tactic(auto, using(crate::proofs::OpaqueKeys::well_formed_algorithm))]
     pub fn algorithm(&self, alloc: Global) -> Result<Algorithm>
         ensures ok { IfOk result (λ a. algorithm_of a ≡ stored_algorithm self.now) }
         ensures well_formed { IsKey (key_of self.now) →
@@ -280,7 +276,7 @@ fn opaque_from<R: Reader>(alloc: Global, reader: &mut R, algorithm: Algorithm) -
 ///
 /// An RSA key may stand under a name with a hash, which is not kept. Fails with `Label` for a name
 /// of no algorithm, and with the faults of the kind.
-#[tactic(auto, using(crate::proofs::Lawful::key_lawful, sshkey_terms::proofs::Chosen::chosen, crate::proofs::KeyReaders::key_chosen, sshkey_base::proofs::Lengths::label_lengths))]
+#[tactic(auto, using(crate::proofs::Lawful::key_lawful, sshkey_terms::proofs::Records::chosen, crate::proofs::KeyReaders::key_chosen, sshkey_base::proofs::Lengths::label_lengths))]
 impl Decode for KeyData {
     type Error = Error;
 

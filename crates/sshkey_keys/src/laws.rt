@@ -4,8 +4,7 @@ ghost use Rattle.std.specs.Prelude.{◌≡◌, ◌++◌, ℕ, List};
 ghost use Rattle.sshkey_model.specs.Keys.{Key, SpellsKey};
 ghost use Rattle.sshkey_model.specs.Signatures.{Signature as TheSignature, SpellsSignature};
 ghost use Rattle.sshkey_base.specs.Comparisons.{EqualMeanSame, IsEqualityAmong, IsEqualityOf, IsOrderByParts};
-ghost use Rattle.sshkey_keys.specs.Comparisons.{HasForm, IsEqualityOfForms, key_parts};
-ghost use Rattle.sshkey_keys.specs.Keys.{key_of};
+ghost use Rattle.sshkey_keys.specs.Keys.{HasForm, IsEqualityOfForms, key_parts, key_of};
 ghost use Rattle.sshkey_keys.specs.Signatures.{signature_of, signature_parts};
 
 use crate::key_data::KeyData;

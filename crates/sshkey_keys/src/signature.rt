@@ -43,7 +43,7 @@ impl Drop for Signature {
 }
 
 impl Signature {
-    ghost use Rattle.sshkey_base.specs.Answers.{AnswersAlways};
+    ghost use Rattle.sshkey_base.specs.Judgements.{AnswersAlways};
     ghost use Rattle.sshkey_base.specs.Causes.{cause};
     ghost use Rattle.sshkey_keys.specs.SignatureForms.{signature_from};
     ghost use Rattle.sshkey_keys.specs.Signatures.{signature_algorithm, signature_of};

@@ -2,12 +2,11 @@
 
 ghost use Rattle.std.specs.Prelude.{◌≡◌, IfErr, IfOk};
 ghost use Rattle.sshkey_model.specs.Verification.{IsAccepted, is_yes, question};
-ghost use Rattle.sshkey_base.specs.Acceptance.{AcceptsExactly};
+ghost use Rattle.sshkey_base.specs.Judgements.{AcceptsExactly};
 ghost use Rattle.sshkey_base.specs.Names.{IsFixed, algorithm_of};
 ghost use Rattle.sshkey_keys.specs.Asked.{AsksVerifier, RunsOut};
 ghost use Rattle.sshkey_keys.specs.Keys.{key_of};
-ghost use Rattle.sshkey_keys.specs.Signatures.{signature_of};
-ghost use Rattle.sshkey_keys.specs.Verdicts.{IsUnsupported, NamesFixed, Verifies, unsupported_of, verdict};
+ghost use Rattle.sshkey_keys.specs.Signatures.{signature_of, IsUnsupported, NamesFixed, Verifies, unsupported_of, verdict};
 
 use crate::key_data::KeyData;
 use crate::raw_verifier::RawVerifier;

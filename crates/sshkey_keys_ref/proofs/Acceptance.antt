@@ -7,7 +7,7 @@ use Rattle.sshkey_model.specs.Names.{Algorithm}
 use Rattle.sshkey_model.specs.CertificateNames.{certified_from}
 use Rattle.sshkey_model.specs.Keys.{Key, body_at, SpellsKey}
 use Rattle.sshkey_model.proofs.Grammars.{none_spelled}
-use Rattle.sshkey_base.specs.Answers.{Judges}
+use Rattle.sshkey_base.specs.Judgements.{Judges, SpellsSome}
 use Rattle.sshkey_base.specs.Causes.{Cause}
 use Rattle.sshkey_base.proofs.Accepted.{whole_spelled, spelled_whole}
 use Rattle.sshkey_keys.proofs.KeyReaders.{body_grammar}
@@ -15,9 +15,7 @@ use Rattle.sshkey_terms.specs.Slices.{AcceptsSome, is_taken}
 use Rattle.sshkey_keys_ref.specs.Taking.{Skips, PassesFront}
 use Rattle.sshkey_keys_ref.specs.KeyBytes.{SpellsCertifiedBody, certified_body_at}
 use Rattle.sshkey_model.specs.Verification.{Question}
-use Rattle.sshkey_base.specs.Acceptance.{SpellsSome}
-use Rattle.sshkey_base.specs.Reading.{AcceptsWhole}
-use Rattle.sshkey_base.specs.Source.{all_of}
+use Rattle.sshkey_base.specs.Reading.{AcceptsWhole, all_of}
 use Rattle.sshkey_model.specs.Signatures.{SpellsSignature}
 use Rattle.sshkey_keys_ref.specs.Signatures.{AreAccepted, DispatchesBytes}
 

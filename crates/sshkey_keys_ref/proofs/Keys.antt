@@ -8,25 +8,21 @@ use Rattle.sshkey_model.proofs.CombinedReaders.{bind_assoc, bind_ok, ok_is, pref
 use Rattle.sshkey_model.proofs.KeyReaders.{key_reads}
 use Rattle.sshkey_model.proofs.NormalFits.{key_fits}
 use Rattle.sshkey_model.specs.Labels.{label_at}
-use Rattle.sshkey_keys.specs.KeyKinds.{is_rsa, is_ecdsa, is_ed25519}
+use Rattle.sshkey_keys.specs.Keys.{is_rsa, is_ecdsa, is_ed25519, GivesFingerprint, key_of}
 use Rattle.sshkey_keys_ref.specs.KeyBytes.{HasPlainHead, IsRenamed, is_hashed, GivesFingerprintOf}
 use Rattle.sshkey_model.specs.Fingerprints as model
-use Rattle.sshkey_base.specs.Answers.{Answers}
+use Rattle.sshkey_base.specs.Judgements.{Answers}
 use Rattle.sshkey_base.specs.Causes.{cause}
 use Rattle.sshkey_base.specs.declared.error.Error.{Error}
 use Rattle.sshkey_base.proofs.Accepted.{whole_spelled}
 use Rattle.sshkey_fingerprints.specs.Fingerprints.{fingerprint_hash, digest_of}
 use Rattle.sshkey_fingerprints.specs.declared.fingerprint.Fingerprint.{Fingerprint}
 use Rattle.sshkey_keys.specs.declared.key_data.KeyData.{KeyData}
-use Rattle.sshkey_keys.specs.Fingerprints.{GivesFingerprint}
 use Rattle.sshkey_keys.proofs.KeyReaders.{key_grammar, key_chosen, body_grammar}
-use Rattle.sshkey_keys.specs.Keys.{key_of}
 use Rattle.sshkey_terms.specs.Slices.{is_taken}
 use Rattle.std.specs.Prelude.{IsOk, IsOkAnd}
-use Rattle.sshkey_base.proofs.Judging.{only_memory}
-use Rattle.sshkey_base.specs.Needs.{Asks}
-use Rattle.sshkey_base.specs.Reading.{AcceptsWhole}
-use Rattle.sshkey_base.specs.Source.{all_of}
+use Rattle.sshkey_base.proofs.Steps.{only_memory}
+use Rattle.sshkey_base.specs.Reading.{Asks, AcceptsWhole, all_of}
 use Rattle.sshkey_model.specs.Names as names
 
 -- what was read to the end left nothing

@@ -8,7 +8,7 @@ use Rattle.sshkey_model.proofs.CombinedReaders.{bind_ok, ok_is}
 use Rattle.sshkey_model.specs.Labels.{label_at}
 use Rattle.sshkey_base.proofs.Accepted.{spelled_whole}
 use Rattle.sshkey_keys.specs.Asked.{IsAsked}
-use Rattle.sshkey_keys.specs.KeyKinds.{is_dsa, is_ecdsa, is_ed25519, is_rsa, is_security_key}
+use Rattle.sshkey_keys.specs.Keys.{is_dsa, is_ecdsa, is_ed25519, is_rsa, is_security_key}
 use Rattle.sshkey_keys.proofs.SignatureReaders.{signature_chosen, signature_grammar}
 use Rattle.sshkey_keys_ref.specs.Signatures.{IsAskedAs, IsBlobIn, signature_by, AnswersKey, AsksBytes, DispatchesBytes, RunsOutFor}
 use Rattle.sshkey_keys_ref.proofs.Keys.{whole_is, broken}

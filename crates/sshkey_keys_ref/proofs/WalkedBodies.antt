@@ -7,13 +7,11 @@ use Rattle.sshkey_model.specs.Reading.{Fault, Front, Whole, string_at, bytes_at,
 use Rattle.sshkey_model.specs.Names.{Algorithm, named, algorithm_from}
 use Rattle.sshkey_model.specs.CertificateNames.{certificate_name, certified, certified_from}
 use Rattle.sshkey_model.specs.Keys.{Opaque, body_at}
-use Rattle.sshkey_base.specs.Answers.{Judges, Answers, AnswersAlways}
+use Rattle.sshkey_base.specs.Judgements.{Judges, Answers, AnswersAlways}
 use Rattle.sshkey_base.specs.Causes.{Cause, NoMemory}
-use Rattle.sshkey_base.specs.Reading.{Reads, GivesWhole}
-use Rattle.sshkey_base.proofs.Judging.{only_memory}
-use Rattle.sshkey_base.proofs.Steps.{refuses_first}
+use Rattle.sshkey_base.specs.Reading.{Reads, GivesWhole, all_of}
+use Rattle.sshkey_base.proofs.Steps.{only_memory, refuses_first}
 use Rattle.sshkey_model.proofs.CertificateNameReaders.{IsStripped, certified_is}
-use Rattle.sshkey_base.specs.Source.{all_of}
 use Rattle.sshkey_model.specs.Signatures.{signature_at, signature_blob_at, trailed_at}
 use Rattle.sshkey_model.specs.Labels.{label_at}
 use Rattle.sshkey_terms.specs.Slices.{is_taken}

@@ -11,9 +11,8 @@ use Rattle.sshkey_model.specs.Keys.{Key, body_at, SpellsBody, Head, Plain, norma
 use Rattle.sshkey_base.specs.Causes.{Cause, NoMemory}
 use Rattle.sshkey_base.specs.Reading.{Refuses}
 use Rattle.sshkey_model.specs.Parts.{flat}
-use Rattle.sshkey_keys.specs.KeyKinds.{is_rsa}
+use Rattle.sshkey_keys.specs.Keys.{is_rsa, IsFingerprint}
 use Rattle.sshkey_fingerprints.specs.declared.fingerprint.Fingerprint.{Fingerprint}
-use Rattle.sshkey_keys.specs.Fingerprints.{IsFingerprint}
 
 abbrev pub named_of : NameRef → Algorithm
 named_of (Fixed algorithm) = algorithm_of algorithm

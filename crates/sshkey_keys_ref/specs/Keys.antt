@@ -1,6 +1,6 @@
 -- What the parts of a key's body mean.
 use Rattle.sshkey_model.specs.Keys.{Key, Dsa, Rsa, SkEcdsa, SkEd25519, body_at, key_data_at}
-use Rattle.sshkey_kinds.specs.EcPoint.{point_of}
+use Rattle.sshkey_kinds.specs.Kinds.{point_of, ecdsa_key_of, ed25519_of}
 use Rattle.sshkey_keys_ref.specs.declared.kinds.DsaRef.{DsaRef}
 use Rattle.sshkey_keys_ref.specs.declared.kinds.RsaRef.{RsaRef}
 use Rattle.sshkey_keys_ref.specs.declared.kinds.SkEcdsaRef.{SkEcdsaRef}
@@ -9,9 +9,7 @@ use Rattle.std.specs.Prelude.{ℕ, List, ◌≡◌, true, Ok}
 use Rattle.sshkey_keys_ref.specs.declared.key_data_ref.KeyDataRef.{KeyDataRef}
 use Rattle.sshkey_model.specs.Names.{Algorithm}
 use Rattle.sshkey_model.specs.Reading.{whole}
-use Rattle.sshkey_kinds.specs.EcdsaPublicKey.{ecdsa_key_of}
-use Rattle.sshkey_kinds.specs.Kinds.{ed25519_of}
-use Rattle.sshkey_keys.specs.KeyKinds.{is_opaque}
+use Rattle.sshkey_keys.specs.Keys.{is_opaque}
 use Rattle.sshkey_keys_ref.specs.declared.key_ref.KeyRef.{KeyRef}
 use Rattle.sshkey_keys_ref.specs.declared.key_ref.KeyRef.TheVariants as kinds
 

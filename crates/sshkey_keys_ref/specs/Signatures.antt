@@ -5,7 +5,7 @@ use Rattle.sshkey_model.specs.Names.{Algorithm}
 use Rattle.sshkey_model.specs.Reading.{whole}
 use Rattle.sshkey_model.specs.Signatures.{Signature, signature_blob_at, SpellsSignature}
 use Rattle.sshkey_model.specs.Verification.{Question, question, is_yes, IsAccepted}
-use Rattle.sshkey_keys.specs.KeyKinds.{is_dsa, is_rsa}
+use Rattle.sshkey_keys.specs.Keys.{is_dsa, is_rsa}
 use Rattle.sshkey_keys_ref.specs.declared.signature_ref.SignatureRef.{SignatureRef}
 
 -- What the verifier answers, if it is asked, and else no. Memory is out only where it is asked.

@@ -3,8 +3,7 @@ use Rattle.std.specs.Prelude.{◌≡◌, ℕ, List, ◌++◌, Option, Some, None
 use denote.Ref.{Bor}
 use Rattle.sshkey_model.specs.Reading.{Fault, Front}
 use Rattle.sshkey_base.specs.Causes.{Cause}
-use Rattle.sshkey_base.specs.Reading.{Refuses, GivesAlways, NoFront}
-use Rattle.sshkey_base.specs.Source.{all_of}
+use Rattle.sshkey_base.specs.Reading.{Refuses, GivesAlways, NoFront, all_of}
 
 -- What the plain reader gives of the bytes, and the rest is left.
 abbrev pub TakesValue : {X Y E : Type 0} → (X → Y) → (E → Cause) → Front Y → List ℕ → Result X E → List ℕ → Type 0

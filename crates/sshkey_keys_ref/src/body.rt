@@ -87,7 +87,7 @@ fn after_kind<'a>(algorithm: &Algorithm, bytes: &'a [u8]) -> Result<&'a [u8]>
 }
 
 /// What stands after an ECDSA key of that curve. Fails with `AlgorithmUnknown` for another curve.
-#[tactic(auto, using(sshkey_terms::proofs::Walking::walking))]
+#[tactic(auto, using(sshkey_terms::proofs::Walks::walking))]
 fn after_ecdsa<'a>(curve: EcdsaCurve, bytes: &'a [u8]) -> Result<&'a [u8]>
     ensures { Skips cause (body_at (model.Ecdsa (curve_of curve))) bytes.now result }
 {

@@ -1,8 +1,7 @@
 //! Public keys that are the bytes that spell them.
 
 ghost use Rattle.std.specs.Prelude.{◌≡◌, true, IfErr, IfOk};
-ghost use Rattle.sshkey_base.specs.Acceptance.{SpellsSome};
-ghost use Rattle.sshkey_base.specs.Answers.{Judges};
+ghost use Rattle.sshkey_base.specs.Judgements.{SpellsSome, Judges};
 ghost use Rattle.sshkey_base.specs.Causes.{NoMemory, cause};
 ghost use Rattle.sshkey_base.specs.Names.{algorithm_of as named_algorithm, hash_of};
 ghost use Rattle.sshkey_model.specs.Reading.{whole};
@@ -30,11 +29,10 @@ pub struct KeyDataRef<'a> {
 }
 
 impl<'a> KeyDataRef<'a> {
-    ghost use Rattle.sshkey_base.specs.Answers.{Answers};
+    ghost use Rattle.sshkey_base.specs.Judgements.{Answers};
     ghost use Rattle.std.specs.Prelude.{◌||◌, IsOk, IsTrue};
     ghost use Rattle.sshkey_model.specs.Keys.{Key};
-    ghost use Rattle.sshkey_keys.specs.KeyKinds.{is_ecdsa, is_ed25519};
-    ghost use Rattle.sshkey_keys.specs.Keys.{key_of};
+    ghost use Rattle.sshkey_keys.specs.Keys.{is_ecdsa, is_ed25519, key_of};
     ghost use Rattle.sshkey_keys_ref.specs.Keys.{key_bytes, Means};
     ghost use Rattle.sshkey_terms.specs.Slices.{Keeps};
 
@@ -123,7 +121,7 @@ fn check_key(bytes: &[u8]) -> Result<()>
 }
 
 /// What stands after a key.
-#[tactic(auto, using(sshkey_terms::proofs::Walking::walking), unfolding(sshkey_model::specs::Keys::key_data_at, sshkey_model::specs::Reading::after_at))]
+#[tactic(auto, using(sshkey_terms::proofs::Walks::walking), unfolding(sshkey_model::specs::Keys::key_data_at, sshkey_model::specs::Reading::after_at))]
 fn after_key(bytes: &[u8]) -> Result<&[u8]>
     ensures { Skips cause key_data_at bytes.now result }
 {

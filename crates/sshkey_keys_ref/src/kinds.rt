@@ -1,19 +1,17 @@
 //! The bodies of keys, kind by kind (RFC 4253, section 6.6; RFC 5656, section 3.1; RFC 8709,
 //! section 4; PROTOCOL.u2f).
 
-ghost use Rattle.sshkey_base.specs.Answers.{AnswersAlways};
+ghost use Rattle.sshkey_base.specs.Judgements.{AnswersAlways};
 ghost use Rattle.sshkey_base.specs.Causes.{cause};
 ghost use Rattle.sshkey_model.specs.Formats.{IsFormat};
 ghost use Rattle.sshkey_model.specs.Labels.{label_at};
 ghost use Rattle.sshkey_base.specs.Names.{curve_of};
-ghost use Rattle.sshkey_base.specs.Source.{Later, all_of};
+ghost use Rattle.sshkey_base.specs.Reading.{Later, all_of};
 ghost use Rattle.sshkey_model.specs.Keys.{Key, any_ecdsa_format, dsa_format, ed25519_format, rsa_format, sk_ecdsa_format, sk_ed25519_format};
 ghost use Rattle.sshkey_model.specs.Names.{curve_from};
 ghost use Rattle.sshkey_model.specs.Points.{point_from, p256_point_from};
 ghost use Rattle.sshkey_model.specs.Reading.{string_at, checked_at};
-ghost use Rattle.sshkey_kinds.specs.EcPoint.{point_of};
-ghost use Rattle.sshkey_kinds.specs.EcdsaPublicKey.{ecdsa_of, ecdsa_key_of};
-ghost use Rattle.sshkey_kinds.specs.Kinds.{ed25519_of};
+ghost use Rattle.sshkey_kinds.specs.Kinds.{point_of, ecdsa_of, ecdsa_key_of, ed25519_of};
 ghost use Rattle.sshkey_keys_ref.specs.Taking.{TakesValue};
 
 use crate::leaves::MpintRef;
@@ -32,7 +30,7 @@ pub struct RsaRef<'a> {
     pub n: MpintRef<'a>,
 }
 
-#[tactic(auto, using(sshkey_kinds::proofs::Lawful::rsa_lawful, sshkey_terms::proofs::Walking::walking), unfolding(sshkey_model::specs::Reading::after_at))]
+#[tactic(auto, using(sshkey_kinds::proofs::Lawful::rsa_lawful, sshkey_terms::proofs::Walks::walking), unfolding(sshkey_model::specs::Reading::after_at))]
 impl<'a> ReadFrom<&'a [u8]> for RsaRef<'a> {
     ghost use Rattle.sshkey_keys_ref.specs.Keys.{rsa_of};
 
@@ -64,7 +62,7 @@ pub struct DsaRef<'a> {
     pub y: MpintRef<'a>,
 }
 
-#[tactic(auto, using(sshkey_kinds::proofs::Lawful::dsa_lawful, sshkey_terms::proofs::Walking::walking), unfolding(sshkey_model::specs::Reading::after_at))]
+#[tactic(auto, using(sshkey_kinds::proofs::Lawful::dsa_lawful, sshkey_terms::proofs::Walks::walking), unfolding(sshkey_model::specs::Reading::after_at))]
 impl<'a> ReadFrom<&'a [u8]> for DsaRef<'a> {
     ghost use Rattle.sshkey_keys_ref.specs.Keys.{dsa_of};
 
@@ -94,7 +92,7 @@ impl<'a> ReadFrom<&'a [u8]> for DsaRef<'a> {
 pub(crate) struct Ed25519Ref(pub Ed25519PublicKey);
 
 /// The bytes of an Ed25519 key.
-#[tactic(auto, using(sshkey_kinds::proofs::Lawful::ed25519_lawful, sshkey_terms::proofs::Walking::walking))]
+#[tactic(auto, using(sshkey_kinds::proofs::Lawful::ed25519_lawful, sshkey_terms::proofs::Walks::walking))]
 impl<'a> ReadFrom<&'a [u8]> for Ed25519Ref {
     type Error = Error;
 
@@ -115,7 +113,7 @@ impl<'a> ReadFrom<&'a [u8]> for Ed25519Ref {
 }
 
 /// The name of a curve.
-#[tactic(auto, using(sshkey_terms::proofs::Walking::walking), unfolding(sshkey_model::specs::Labels::label_at))]
+#[tactic(auto, using(sshkey_terms::proofs::Walks::walking), unfolding(sshkey_model::specs::Labels::label_at))]
 fn take_curve<'a>(bytes: &mut &'a [u8]) -> Result<EcdsaCurve>
     ensures gives { TakesValue curve_of cause (label_at curve_from) bytes.old.now result
         bytes.new.now }
@@ -140,7 +138,7 @@ fn curve_in(string: &[u8]) -> Result<EcdsaCurve>
 pub(crate) struct EcdsaRef(pub EcdsaPublicKey);
 
 /// The name of a curve and a point of it.
-#[tactic(auto, using(sshkey_kinds::proofs::Lawful::any_ecdsa_lawful, sshkey_terms::proofs::Walking::walking), unfolding(sshkey_model::specs::Reading::after_at, sshkey_model::specs::Labels::label_at))]
+#[tactic(auto, using(sshkey_kinds::proofs::Lawful::any_ecdsa_lawful, sshkey_terms::proofs::Walks::walking), unfolding(sshkey_model::specs::Reading::after_at, sshkey_model::specs::Labels::label_at))]
 impl<'a> ReadFrom<&'a [u8]> for EcdsaRef {
     type Error = Error;
 
@@ -165,7 +163,7 @@ impl<'a> ReadFrom<&'a [u8]> for EcdsaRef {
 }
 
 /// A point string of any of the curves.
-#[tactic(auto, using(sshkey_terms::proofs::Walking::walking))]
+#[tactic(auto, using(sshkey_terms::proofs::Walks::walking))]
 fn take_point<'a>(bytes: &mut &'a [u8]) -> Result<EcdsaPublicKey>
     ensures gives { TakesValue ecdsa_of cause (checked_at point_from string_at)
         bytes.old.now result bytes.new.now }
@@ -192,7 +190,7 @@ pub struct SkEcdsaRef<'a> {
     pub application: &'a str,
 }
 
-#[tactic(auto, using(sshkey_kinds::proofs::Lawful::sk_ecdsa_lawful, sshkey_terms::proofs::Walking::walking), unfolding(sshkey_model::specs::Reading::after_at, sshkey_model::specs::Labels::label_at))]
+#[tactic(auto, using(sshkey_kinds::proofs::Lawful::sk_ecdsa_lawful, sshkey_terms::proofs::Walks::walking), unfolding(sshkey_model::specs::Reading::after_at, sshkey_model::specs::Labels::label_at))]
 impl<'a> ReadFrom<&'a [u8]> for SkEcdsaRef<'a> {
     ghost use Rattle.sshkey_keys_ref.specs.Keys.{sk_ecdsa_of};
 
@@ -220,7 +218,7 @@ impl<'a> ReadFrom<&'a [u8]> for SkEcdsaRef<'a> {
 }
 
 /// A point string of P-256.
-#[tactic(auto, using(sshkey_terms::proofs::Walking::walking))]
+#[tactic(auto, using(sshkey_terms::proofs::Walks::walking))]
 fn take_p256_point<'a>(bytes: &mut &'a [u8]) -> Result<EcdsaNistP256PublicKey>
     ensures gives { TakesValue point_of cause (checked_at p256_point_from string_at)
         bytes.old.now result bytes.new.now }
@@ -247,7 +245,7 @@ pub struct SkEd25519Ref<'a> {
     pub application: &'a str,
 }
 
-#[tactic(auto, using(sshkey_kinds::proofs::Lawful::sk_ed25519_lawful, sshkey_terms::proofs::Walking::walking), unfolding(sshkey_model::specs::Reading::after_at))]
+#[tactic(auto, using(sshkey_kinds::proofs::Lawful::sk_ed25519_lawful, sshkey_terms::proofs::Walks::walking), unfolding(sshkey_model::specs::Reading::after_at))]
 impl<'a> ReadFrom<&'a [u8]> for SkEd25519Ref<'a> {
     ghost use Rattle.sshkey_keys_ref.specs.Keys.{sk_ed25519_of};
 

@@ -12,7 +12,7 @@ use sshkey_terms::ReadFrom;
 pub struct MpintRef<'a>(pub &'a [u8]);
 
 /// A string of the bytes of a number.
-#[tactic(auto, using(sshkey_base::proofs::Lawful::mpint_lawful, sshkey_terms::proofs::Walking::walking), unfolding(sshkey_model::specs::Mpints::mpint_at))]
+#[tactic(auto, using(sshkey_base::proofs::Lawful::mpint_lawful, sshkey_terms::proofs::Walks::walking), unfolding(sshkey_model::specs::Mpints::mpint_at))]
 impl<'a> ReadFrom<&'a [u8]> for MpintRef<'a> {
     type Error = Error;
 

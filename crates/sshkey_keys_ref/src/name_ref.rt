@@ -1,6 +1,6 @@
 //! Names of algorithms, as slices.
 
-ghost use Rattle.sshkey_base.specs.Answers.{AnswersAlways};
+ghost use Rattle.sshkey_base.specs.Judgements.{AnswersAlways};
 ghost use Rattle.sshkey_base.specs.Causes.{cause};
 ghost use Rattle.sshkey_model.specs.Labels.{label_at};
 ghost use Rattle.sshkey_model.specs.Names.{algorithm_from};
@@ -21,7 +21,7 @@ pub(crate) enum NameRef<'a> {
 }
 
 /// The string of the name of an algorithm.
-#[tactic(auto, using(sshkey_terms::proofs::Walking::walking), unfolding(sshkey_model::specs::Labels::label_at))]
+#[tactic(auto, using(sshkey_terms::proofs::Walks::walking), unfolding(sshkey_model::specs::Labels::label_at))]
 pub(crate) fn take_name<'a>(bytes: &mut &'a [u8]) -> Result<NameRef<'a>>
     ensures { TakesValue named_of cause (label_at algorithm_from) bytes.old.now result
         bytes.new.now }

@@ -1,8 +1,7 @@
 //! Signatures that are the bytes that spell them.
 
 ghost use Rattle.std.specs.Prelude.{◌≡◌, true, IfErr, IfOk};
-ghost use Rattle.sshkey_base.specs.Acceptance.{SpellsSome};
-ghost use Rattle.sshkey_base.specs.Answers.{AnswersAlways, Judges};
+ghost use Rattle.sshkey_base.specs.Judgements.{SpellsSome, AnswersAlways, Judges};
 ghost use Rattle.sshkey_base.specs.Causes.{NoMemory, cause};
 ghost use Rattle.sshkey_model.specs.Reading.{whole, string_at, checked_at};
 ghost use Rattle.sshkey_model.specs.Signatures.{has_trailer, string_from, signature_at, signature_blob_at, trailed_at, SpellsSignature};
@@ -28,7 +27,7 @@ pub struct SignatureRef<'a> {
 }
 
 impl<'a> SignatureRef<'a> {
-    ghost use Rattle.sshkey_base.specs.Answers.{Answers};
+    ghost use Rattle.sshkey_base.specs.Judgements.{Answers};
     ghost use Rattle.sshkey_keys.specs.Signatures.{signature_of};
     ghost use Rattle.sshkey_keys_ref.specs.Signatures.{signature_bytes};
     ghost use Rattle.sshkey_terms.specs.Slices.{Keeps};
@@ -85,7 +84,7 @@ fn check_signature(bytes: &[u8]) -> Result<()>
 }
 
 /// What stands after a signature.
-#[tactic(auto, using(sshkey_terms::proofs::Walking::walking), unfolding(sshkey_model::specs::Signatures::signature_at, sshkey_model::specs::Reading::after_at))]
+#[tactic(auto, using(sshkey_terms::proofs::Walks::walking), unfolding(sshkey_model::specs::Signatures::signature_at, sshkey_model::specs::Reading::after_at))]
 fn after_signature(bytes: &[u8]) -> Result<&[u8]>
     ensures { Skips cause signature_at bytes.now result }
 {
@@ -132,7 +131,7 @@ fn check(name: &NameRef<'_>, bytes: &[u8]) -> Result<()>
 }
 
 /// What stands after the string.
-#[tactic(auto, using(sshkey_terms::proofs::Walking::walking))]
+#[tactic(auto, using(sshkey_terms::proofs::Walks::walking))]
 fn after_checked<'a>(name: &NameRef<'_>, bytes: &'a [u8]) -> Result<&'a [u8]>
     ensures { Skips cause (checked_at (string_from (named_of name.now)) string_at)
         bytes.now result }
@@ -144,7 +143,7 @@ fn after_checked<'a>(name: &NameRef<'_>, bytes: &'a [u8]) -> Result<&'a [u8]>
 }
 
 /// What stands after the string and the five bytes of flags and counter.
-#[tactic(auto, using(sshkey_terms::proofs::Walking::walking))]
+#[tactic(auto, using(sshkey_terms::proofs::Walks::walking))]
 fn after_trailed<'a>(name: &NameRef<'_>, bytes: &'a [u8]) -> Result<&'a [u8]>
     ensures { Skips cause (trailed_at (string_from (named_of name.now))) bytes.now result }
 {

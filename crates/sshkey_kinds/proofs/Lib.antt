@@ -1,5 +1,2 @@
 pub mod Points
-pub mod Parts
-pub mod PointStrings
-pub mod EqualPoints
 pub mod Lawful

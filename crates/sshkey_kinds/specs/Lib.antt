@@ -1,9 +1,3 @@
-pub mod PointSizes
-pub mod ByteHash
-pub mod EcPoint
-pub mod EcdsaPublicKey
-pub mod EcdsaEquality
-pub mod Kinds
-pub mod Comparisons
-pub mod Ed25519PublicKey
 pub mod PointStrings
+pub mod Comparisons
+pub mod Kinds

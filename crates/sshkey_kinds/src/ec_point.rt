@@ -2,7 +2,7 @@
 
 ghost use Rattle.std.specs.Prelude.{◌≡◌, ◌≤◌, ◌-◌, true, take, drop, replicate, option_map};
 ghost use Rattle.sshkey_base.specs.Names.{curve_of};
-ghost use Rattle.sshkey_kinds.specs.PointSizes.{curve_of_longest, is_point_within};
+ghost use Rattle.sshkey_kinds.specs.PointStrings.{curve_of_longest, is_point_within};
 
 use crate::point_string::PointString;
 use sshkey_base::{EcdsaCurve, Encode, Error, Result, Writer, encode_string, encoding, string_len};
@@ -41,10 +41,10 @@ pub type EcdsaNistP521PublicKey = EcPoint<P521_POINT_LEN>;
 
 impl<const LEN: usize> EcPoint<LEN> {
     ghost use Rattle.std.specs.Prelude.{◌≡◌};
-    ghost use Rattle.sshkey_base.specs.Answers.{AnswersAlways};
+    ghost use Rattle.sshkey_base.specs.Judgements.{AnswersAlways};
     ghost use Rattle.sshkey_base.specs.Causes.{cause};
-    ghost use Rattle.sshkey_kinds.specs.PointSizes.{point_within};
-    ghost use Rattle.sshkey_kinds.specs.EcPoint.{point_of};
+    ghost use Rattle.sshkey_kinds.specs.PointStrings.{point_within};
+    ghost use Rattle.sshkey_kinds.specs.Kinds.{point_of};
 
     /// The point of these bytes. Fails with `Ecdsa` if they are no point string of this size.
     pub fn from_bytes(bytes: &[u8]) -> Result<EcPoint<LEN>>
@@ -102,7 +102,7 @@ impl<const LEN: usize> PartialEq for EcPoint<LEN> {
     ghost use Rattle.std.proofs.Common.{rules};
     ghost use Rattle.std.specs.Ordering.{on};
     ghost use Rattle.std.specs.Str.{bytes_eq};
-    ghost use Rattle.sshkey_kinds.specs.EcPoint.{point_of};
+    ghost use Rattle.sshkey_kinds.specs.Kinds.{point_of};
 
     ghost eq = { on point_of bytes_eq };
 
@@ -130,7 +130,7 @@ impl<const LEN: usize> Ord for EcPoint<LEN> {
     ghost use Rattle.std.specs.Cmp.Rules.{comparing};
     ghost use Rattle.std.proofs.Common.{rules};
     ghost use Rattle.std.specs.Ordering.{nat_cmp, on};
-    ghost use Rattle.sshkey_kinds.specs.EcPoint.{point_of};
+    ghost use Rattle.sshkey_kinds.specs.Kinds.{point_of};
 
     ghost cmp = { on point_of (slice_cmp nat_cmp) };
 
@@ -152,7 +152,7 @@ impl<const LEN: usize> PartialOrd for EcPoint<LEN> {
     ghost use Rattle.std.specs.Cmp.Rules.{comparing};
     ghost use Rattle.std.proofs.Common.{rules};
     ghost use Rattle.std.specs.Ordering.{nat_cmp, on, as_partial_cmp};
-    ghost use Rattle.sshkey_kinds.specs.EcPoint.{point_of};
+    ghost use Rattle.sshkey_kinds.specs.Kinds.{point_of};
 
     ghost partial_cmp = { as_partial_cmp (on point_of (slice_cmp nat_cmp)) };
 
@@ -166,8 +166,8 @@ impl<const LEN: usize> PartialOrd for EcPoint<LEN> {
 
 impl<const LEN: usize> Hash for EcPoint<LEN> {
     ghost use Rattle.std.specs.Hash as fed;
-    ghost use Rattle.sshkey_kinds.specs.EcPoint.{point_of};
-    ghost use Rattle.sshkey_kinds.specs.ByteHash.{same_hash};
+    ghost use Rattle.sshkey_kinds.specs.Kinds.{point_of};
+    ghost use Rattle.sshkey_kinds.specs.Comparisons.{same_hash};
 
     ghost hash_input = { λ p. fed.slice fed.u8 (point_of p) };
 
@@ -180,7 +180,7 @@ impl<const LEN: usize> Hash for EcPoint<LEN> {
 }
 
 impl<const LEN: usize> AsSlice<u8> for EcPoint<LEN> {
-    ghost use Rattle.sshkey_kinds.specs.EcPoint.{point_of};
+    ghost use Rattle.sshkey_kinds.specs.Kinds.{point_of};
 
     ghost items = { point_of };
 
@@ -191,8 +191,8 @@ impl<const LEN: usize> AsSlice<u8> for EcPoint<LEN> {
 
 impl<const LEN: usize> PointString for EcPoint<LEN> {
     ghost use Rattle.std.specs.Prelude.{List, ℕ};
-    ghost use Rattle.sshkey_kinds.specs.PointSizes.{point_within};
-    ghost use Rattle.sshkey_kinds.specs.EcPoint.{point_of};
+    ghost use Rattle.sshkey_kinds.specs.PointStrings.{point_within};
+    ghost use Rattle.sshkey_kinds.specs.Kinds.{point_of};
 
     ghost Meaning = { List ℕ };
 
@@ -209,7 +209,7 @@ impl<const LEN: usize> PointString for EcPoint<LEN> {
 impl<const LEN: usize> Encode for EcPoint<LEN> {
     ghost use Rattle.std.specs.Prelude.{◌+◌, ◌^◌};
     ghost use Rattle.sshkey_model.specs.Texts.{string};
-    ghost use Rattle.sshkey_kinds.specs.EcPoint.{point_of};
+    ghost use Rattle.sshkey_kinds.specs.Kinds.{point_of};
 
     ghost normal = { λ p. string (point_of p) };
 

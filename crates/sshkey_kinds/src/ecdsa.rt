@@ -3,11 +3,11 @@
 ghost use Rattle.std.specs.Fmt.{WritesOnOk, WritesStyledOnOk};
 ghost use Rattle.std.specs.Prelude.{◌≡◌};
 ghost use Rattle.hex.specs.Hex.{encode_lower, encode_upper};
-ghost use Rattle.sshkey_base.specs.Answers.{AnswersAlways};
+ghost use Rattle.sshkey_base.specs.Judgements.{AnswersAlways};
 ghost use Rattle.sshkey_base.specs.Causes.{cause};
 ghost use Rattle.sshkey_base.specs.Names.{curve_of};
 ghost use Rattle.sshkey_model.specs.Points.{curve_of_size, point_curve};
-ghost use Rattle.sshkey_kinds.specs.EcdsaPublicKey.{ecdsa_of};
+ghost use Rattle.sshkey_kinds.specs.Kinds.{ecdsa_of};
 
 use crate::ec_point::{
     EcPoint, EcdsaNistP256PublicKey, EcdsaNistP384PublicKey, EcdsaNistP521PublicKey, P521_POINT_LEN,
@@ -37,7 +37,7 @@ pub enum EcdsaPublicKey {
 
 impl EcdsaPublicKey {
     ghost use Rattle.std.specs.Prelude.{◌↔◌, IsOk};
-    ghost use Rattle.sshkey_kinds.specs.EcdsaPublicKey.{ecdsa_of, sec1_from, IsAnyPoint};
+    ghost use Rattle.sshkey_kinds.specs.Kinds.{ecdsa_of, sec1_from, IsAnyPoint};
 
     /// The key of a point string (SEC 1, section 2.3.3), whose curve its tag and its size tell.
     /// Returns `Ok` exactly if the bytes are a point string of one of the curves.
@@ -74,7 +74,7 @@ impl EcdsaPublicKey {
     ghost use Rattle.sshkey_base.specs.Names.{curve_of, algorithm_of};
     ghost use Rattle.sshkey_model.specs.Names.{Ecdsa};
     ghost use Rattle.sshkey_model.specs.Points.{curve_eq};
-    ghost use Rattle.sshkey_kinds.specs.EcdsaPublicKey.{ecdsa_of};
+    ghost use Rattle.sshkey_kinds.specs.Kinds.{ecdsa_of};
 
     /// The curve of the point.
     pub fn curve(&self) -> EcdsaCurve
@@ -112,10 +112,10 @@ impl EcdsaPublicKey {
 ///
 /// Fails with `Length` for a point string of more than 133 bytes, with the faults of
 /// `from_sec1_bytes`, and with `AlgorithmUnknown` for a point of another curve than the stated one.
-#[tactic(auto, using(crate::proofs::Lawful::any_ecdsa_lawful, sshkey_terms::proofs::Mapped::mapped, crate::proofs::Parts::ecdsa))]
+#[tactic(auto, using(crate::proofs::Lawful::any_ecdsa_lawful, sshkey_terms::proofs::Records::mapped, crate::proofs::Points::ecdsa))]
 impl Decode for EcdsaPublicKey {
     ghost use Rattle.sshkey_model.specs.Keys.{Key, any_ecdsa_format};
-    ghost use Rattle.sshkey_kinds.specs.EcdsaPublicKey.{ecdsa_key_of};
+    ghost use Rattle.sshkey_kinds.specs.Kinds.{ecdsa_key_of};
 
     type Error = Error;
 
@@ -140,11 +140,11 @@ impl Decode for EcdsaPublicKey {
 /// A point string on any of the curves, at most 133 bytes long.
 struct AnyPoint(EcdsaPublicKey);
 
-#[tactic(auto, using(crate::proofs::Lawful::point_lawful, sshkey_base::proofs::Steps::steps, sshkey_terms::proofs::Stopping::handed, sshkey_base::proofs::Stopping::judged_length_stopped, crate::proofs::PointStrings::after_refused_stopped), unfolding(sshkey_model::specs::Reading::string_at))]
+#[tactic(auto, using(crate::proofs::Lawful::point_lawful, sshkey_base::proofs::Steps::steps, sshkey_terms::proofs::Stopping::handed, sshkey_base::proofs::Stopping::judged_length_stopped, crate::proofs::Points::after_refused_stopped), unfolding(sshkey_model::specs::Reading::string_at))]
 impl Decode for AnyPoint {
     ghost use Rattle.std.specs.Prelude.{List, ℕ};
     ghost use Rattle.sshkey_model.specs.Names.{Curve};
-    ghost use Rattle.sshkey_kinds.specs.EcdsaPublicKey.{ecdsa_of};
+    ghost use Rattle.sshkey_kinds.specs.Kinds.{ecdsa_of};
     ghost use Rattle.sshkey_model.specs.Points.{point_format};
 
     type Error = Error;
@@ -167,7 +167,7 @@ impl Decode for AnyPoint {
 impl PointString for EcdsaPublicKey {
     ghost use Rattle.std.specs.Prelude.{List, ℕ};
     ghost use Rattle.sshkey_model.specs.Names.{Curve};
-    ghost use Rattle.sshkey_kinds.specs.EcdsaPublicKey.{ecdsa_of, sec1_from};
+    ghost use Rattle.sshkey_kinds.specs.Kinds.{ecdsa_of, sec1_from};
 
     ghost Meaning = { Curve × List ℕ };
 
@@ -185,7 +185,7 @@ impl PointString for EcdsaPublicKey {
 impl Encode for EcdsaPublicKey {
     ghost use Rattle.std.specs.Prelude.{◌+◌, ◌*◌, ◌^◌};
     ghost use Rattle.sshkey_model.specs.Keys.{body};
-    ghost use Rattle.sshkey_kinds.specs.EcdsaPublicKey.{ecdsa_key_of};
+    ghost use Rattle.sshkey_kinds.specs.Kinds.{ecdsa_key_of};
 
     ghost normal = { λ k. body (ecdsa_key_of k) };
 
@@ -237,8 +237,8 @@ fn curve_of_size(size: usize) -> Result<EcdsaCurve>
 
 impl PartialEq for EcdsaPublicKey {
     ghost use Rattle.std.specs.Prelude.{◌≡◌, ◌↔◌, IsTrue};
-    ghost use Rattle.sshkey_kinds.specs.EcdsaPublicKey.{ecdsa_of, same_key};
-    ghost use Rattle.sshkey_kinds.specs.EcdsaEquality.{same_key_partial_equivalence};
+    ghost use Rattle.sshkey_kinds.specs.Kinds.{ecdsa_of, same_key};
+    ghost use Rattle.sshkey_kinds.specs.Comparisons.{same_key_partial_equivalence};
 
     ghost eq = { same_key };
 
@@ -264,13 +264,13 @@ impl PartialEq for EcdsaPublicKey {
 }
 
 impl Eq for EcdsaPublicKey {
-    ghost use Rattle.sshkey_kinds.specs.EcdsaEquality.{same_key_equivalence};
+    ghost use Rattle.sshkey_kinds.specs.Comparisons.{same_key_equivalence};
 
     ghost laws = { same_key_equivalence };
 }
 
 impl AsSlice<u8> for EcdsaPublicKey {
-    ghost use Rattle.sshkey_kinds.specs.EcdsaPublicKey.{ecdsa_of};
+    ghost use Rattle.sshkey_kinds.specs.Kinds.{ecdsa_of};
 
     ghost items = { λ k. (ecdsa_of k).1 };
 
@@ -281,7 +281,7 @@ impl AsSlice<u8> for EcdsaPublicKey {
 
 /// Two digits a byte, with small letters.
 impl fmt::LowerHex for EcdsaPublicKey {
-    ghost use Rattle.sshkey_kinds.specs.EcdsaPublicKey.{ecdsa_of};
+    ghost use Rattle.sshkey_kinds.specs.Kinds.{ecdsa_of};
 
     fn fmt<W: fmt::Write>(&self, f: &mut fmt::Formatter<W>) -> fmt::Result
         ensures writes { WritesOnOk W.write_str_gives f.old result
@@ -295,7 +295,7 @@ impl fmt::LowerHex for EcdsaPublicKey {
 
 /// Two digits a byte, with capital letters.
 impl fmt::UpperHex for EcdsaPublicKey {
-    ghost use Rattle.sshkey_kinds.specs.EcdsaPublicKey.{ecdsa_of};
+    ghost use Rattle.sshkey_kinds.specs.Kinds.{ecdsa_of};
 
     fn fmt<W: fmt::Write>(&self, f: &mut fmt::Formatter<W>) -> fmt::Result
         ensures writes { WritesOnOk W.write_str_gives f.old result
@@ -311,7 +311,7 @@ impl fmt::UpperHex for EcdsaPublicKey {
 impl fmt::Display for EcdsaPublicKey {
     ghost use Rattle.std.specs.Prelude.{Some};
     ghost use Rattle.hex.specs.Hex.{encode_upper};
-    ghost use Rattle.sshkey_kinds.specs.EcdsaPublicKey.{ecdsa_of};
+    ghost use Rattle.sshkey_kinds.specs.Kinds.{ecdsa_of};
 
     ghost output = { λ k. Some (encode_upper (ecdsa_of k).1) };
 

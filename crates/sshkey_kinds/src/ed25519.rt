@@ -3,13 +3,12 @@
 ghost use Rattle.std.specs.Fmt.{WritesOnOk, WritesStyledOnOk};
 ghost use Rattle.std.specs.Prelude.{Some, ◌+◌, ◌^◌};
 ghost use Rattle.hex.specs.Hex.{encode_lower, encode_upper};
-ghost use Rattle.sshkey_base.specs.Answers.{AnswersAlways};
+ghost use Rattle.sshkey_base.specs.Judgements.{AnswersAlways};
 ghost use Rattle.sshkey_base.specs.Causes.{cause, encoding_cause};
-ghost use Rattle.sshkey_base.specs.Reading.{Decodes, DecodesAlways};
-ghost use Rattle.sshkey_base.specs.Source.{Later};
+ghost use Rattle.sshkey_base.specs.Reading.{Decodes, DecodesAlways, Later};
 ghost use Rattle.sshkey_model.specs.Keys.{Key, body, ed25519_format};
 ghost use Rattle.sshkey_base.specs.Formats.{Stops};
-ghost use Rattle.sshkey_kinds.specs.Ed25519PublicKey.{ed25519_from};
+ghost use Rattle.sshkey_kinds.specs.Kinds.{ed25519_from};
 
 use sshkey_base::{
     Decode, Encode, Error, Reader, Result, Writer, encoding, write_lower_hex, write_upper_hex,
@@ -29,9 +28,9 @@ impl Ed25519PublicKey {
 
 /// A string of 32 bytes: `Length` for a shorter one, `TrailingData` for a longer one. Does not
 /// allocate.
-#[tactic(auto, using(crate::proofs::Lawful::ed25519_lawful, sshkey_base::proofs::Steps::steps, sshkey_terms::proofs::Mapped::mapped, sshkey_terms::proofs::Lawful::checked_read))]
+#[tactic(auto, using(crate::proofs::Lawful::ed25519_lawful, sshkey_base::proofs::Steps::steps, sshkey_terms::proofs::Records::mapped, sshkey_terms::proofs::Lawful::checked_read))]
 impl Decode for Ed25519PublicKey {
-    ghost use Rattle.sshkey_base.specs.Needs.{Asks};
+    ghost use Rattle.sshkey_base.specs.Reading.{Asks};
     ghost use Rattle.sshkey_model.specs.Needs.{NoNeed};
     ghost use Rattle.sshkey_kinds.specs.Kinds.{ed25519_of};
 

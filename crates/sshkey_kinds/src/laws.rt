@@ -2,8 +2,7 @@
 
 ghost use Rattle.sshkey_base.specs.Comparisons.{IsEqualityOf, IsOrderOf, IsOrderByParts};
 ghost use Rattle.sshkey_kinds.specs.Comparisons.{dsa_parts, ecdsa_parts, rsa_parts, sk_ecdsa_parts, sk_ed25519_parts, opaque_parts, opaque_fields};
-ghost use Rattle.sshkey_kinds.specs.EcdsaPublicKey.{ecdsa_of};
-ghost use Rattle.sshkey_kinds.specs.Kinds.{dsa_of, ed25519_of, rsa_of, sk_ecdsa_of, sk_ed25519_of};
+ghost use Rattle.sshkey_kinds.specs.Kinds.{ecdsa_of, dsa_of, ed25519_of, rsa_of, sk_ecdsa_of, sk_ed25519_of};
 
 use crate::dsa::DsaPublicKey;
 use crate::ecdsa::EcdsaPublicKey;

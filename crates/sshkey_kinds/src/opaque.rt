@@ -61,10 +61,8 @@ impl AsSlice<u8> for OpaquePublicKeyBytes {
 #[tactic(auto, using(sshkey_base::proofs::Lawful::string_lawful, sshkey_base::proofs::Steps::steps))]
 impl Decode for OpaquePublicKeyBytes {
     ghost use Rattle.sshkey_base.specs.Causes.{encoding_cause};
-    ghost use Rattle.sshkey_base.specs.Needs.{Asks};
+    ghost use Rattle.sshkey_base.specs.Reading.{Asks, Decodes, Later};
     ghost use Rattle.sshkey_model.specs.Needs.{NeedsString};
-    ghost use Rattle.sshkey_base.specs.Reading.{Decodes};
-    ghost use Rattle.sshkey_base.specs.Source.{Later};
 
     type Error = encoding::Error;
 

@@ -1,10 +1,9 @@
 //! Points after the length of their strings.
 
 ghost use Rattle.std.specs.Prelude.{◌≡◌, ◌<◌, ◌≤◌, IsErrAnd};
-ghost use Rattle.sshkey_base.specs.Answers.{AnswersAlways};
+ghost use Rattle.sshkey_base.specs.Judgements.{AnswersAlways};
 ghost use Rattle.sshkey_base.specs.Causes.{Faulty, cause};
-ghost use Rattle.sshkey_base.specs.Reading.{GivesAlways};
-ghost use Rattle.sshkey_base.specs.Source.{Later, announced_len};
+ghost use Rattle.sshkey_base.specs.Reading.{GivesAlways, Later, announced_len};
 ghost use Rattle.sshkey_model.specs.Reading.{Whole, Length, bytes_at, checked_at};
 ghost use Rattle.sshkey_kinds.specs.PointStrings.{bounded_from};
 

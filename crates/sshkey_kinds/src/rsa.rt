@@ -36,7 +36,7 @@ impl RsaPublicKey {
 }
 
 /// The two numbers, e and then n, each as a string.
-#[tactic(auto, using(crate::proofs::Lawful::rsa_lawful, sshkey_terms::proofs::Mapped::mapped, sshkey_terms::proofs::Lawful::checked_read))]
+#[tactic(auto, using(crate::proofs::Lawful::rsa_lawful, sshkey_terms::proofs::Records::mapped, sshkey_terms::proofs::Lawful::checked_read))]
 impl Decode for RsaPublicKey {
     ghost use Rattle.sshkey_kinds.specs.Kinds.{rsa_of};
 

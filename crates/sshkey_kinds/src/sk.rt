@@ -2,7 +2,7 @@
 
 ghost use Rattle.std.specs.Prelude.{◌≡◌, ℕ, List, ◌+◌, ◌*◌, ◌^◌, codes, string_bytes, IfOk, IfErr};
 ghost use Rattle.sshkey_model.specs.Keys.{Key, SkEcdsa, SkEd25519 as SkEd25519Key, body, sk_ecdsa_format, sk_ed25519_format};
-ghost use Rattle.sshkey_kinds.specs.EcPoint.{point_of};
+ghost use Rattle.sshkey_kinds.specs.Kinds.{point_of};
 
 use crate::ec_point::{EcdsaNistP256PublicKey, P256_POINT_LEN};
 use crate::ed25519::Ed25519PublicKey;
@@ -93,7 +93,7 @@ impl From<SkEcdsaSha2NistP256> for EcdsaNistP256PublicKey {
 ///
 /// Fails with `Crypto` for another curve, with `Length` for a point string of more than 65 bytes,
 /// and with `Ecdsa` for one that is no point of P-256.
-#[tactic(auto, using(crate::proofs::Lawful::sk_ecdsa_lawful, sshkey_terms::proofs::Mapped::mapped, sshkey_terms::proofs::Lawful::checked_read))]
+#[tactic(auto, using(crate::proofs::Lawful::sk_ecdsa_lawful, sshkey_terms::proofs::Records::mapped, sshkey_terms::proofs::Lawful::checked_read))]
 impl Decode for SkEcdsaSha2NistP256 {
     ghost use Rattle.sshkey_kinds.specs.Kinds.{sk_ecdsa_of};
 
@@ -121,7 +121,7 @@ impl Decode for SkEcdsaSha2NistP256 {
 #[derive(Drop)]
 struct P256Name;
 
-#[tactic(auto, using(crate::proofs::Lawful::p256_name_lawful, sshkey_base::proofs::Steps::steps, sshkey_terms::proofs::Mapped::mapped, sshkey_terms::proofs::Tested::tested, sshkey_terms::proofs::Lawful::checked_read, sshkey_base::proofs::Lengths::label_lengths))]
+#[tactic(auto, using(crate::proofs::Lawful::p256_name_lawful, sshkey_base::proofs::Steps::steps, sshkey_terms::proofs::Records::mapped, sshkey_terms::proofs::Records::tested, sshkey_terms::proofs::Lawful::checked_read, sshkey_base::proofs::Lengths::label_lengths))]
 impl Decode for P256Name {
     ghost use Rattle.sshkey_model.specs.Names.{Curve, Nistp256};
     ghost use Rattle.sshkey_model.specs.Keys.{p256_name_format};
@@ -149,7 +149,7 @@ impl Decode for P256Name {
 #[derive(Drop)]
 struct P256Point(EcdsaNistP256PublicKey);
 
-#[tactic(auto, using(crate::proofs::Lawful::p256_point_lawful, sshkey_base::proofs::Steps::steps, sshkey_terms::proofs::Stopping::handed, sshkey_base::proofs::Stopping::judged_length_stopped, crate::proofs::PointStrings::after_refused_stopped), unfolding(sshkey_model::specs::Reading::string_at))]
+#[tactic(auto, using(crate::proofs::Lawful::p256_point_lawful, sshkey_base::proofs::Steps::steps, sshkey_terms::proofs::Stopping::handed, sshkey_base::proofs::Stopping::judged_length_stopped, crate::proofs::Points::after_refused_stopped), unfolding(sshkey_model::specs::Reading::string_at))]
 impl Decode for P256Point {
     ghost use Rattle.sshkey_model.specs.Points.{p256_point_format};
 
@@ -267,7 +267,7 @@ impl From<SkEd25519> for Ed25519PublicKey {
 }
 
 /// A string of 32 bytes, and the application as a text.
-#[tactic(auto, using(crate::proofs::Lawful::sk_ed25519_lawful, sshkey_terms::proofs::Mapped::mapped, sshkey_terms::proofs::Lawful::checked_read))]
+#[tactic(auto, using(crate::proofs::Lawful::sk_ed25519_lawful, sshkey_terms::proofs::Records::mapped, sshkey_terms::proofs::Lawful::checked_read))]
 impl Decode for SkEd25519 {
     ghost use Rattle.sshkey_kinds.specs.Kinds.{sk_ed25519_of};
 

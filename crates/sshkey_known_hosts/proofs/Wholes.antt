@@ -4,7 +4,7 @@ use Rattle.std.proofs.lemmas.List.{length-append, length-drop, length-take-le}
 use Rattle.base64.specs.Engines.{standard}
 use Rattle.base64.specs.GeneralPurpose.{IsBytes, decode_of}
 use Rattle.base64.proofs.EngineFacts.{decode_of-encode_of, decode_of_strict, front_bytes}
-use Rattle.sshkey_base.specs.Source.{Source, Advances, IsSound, TooFew, announced_len}
+use Rattle.sshkey_base.specs.Reading.{Source, Advances, IsSound, TooFew, announced_len}
 use Rattle.sshkey_base.specs.declared.encoding.Error.{Error}
 use Rattle.sshkey_base64.specs.Words64.{DecodesSome, IsSourceOf}
 use Rattle.sshkey_base64.proofs.GoodBytes.{length_word}

@@ -6,7 +6,7 @@ use Rattle.sshkey_model.specs.Lines.{space, IsWithout}
 use Rattle.sshkey_base.specs.declared.encoding.Error.TheVariants.{Base64, Length}
 use Rattle.sshkey_base.specs.declared.error.Error.{Error}
 use Rattle.sshkey_base.specs.declared.error.Error.TheVariants.{Encoding, FormatEncoding, Memory}
-use Rattle.sshkey_keys.specs.Comparisons.{HasForm}
+use Rattle.sshkey_keys.specs.Keys.{HasForm}
 use Rattle.sshkey_public.specs.PublicKeys.{data_of, public_of, comment_of}
 use Rattle.sshkey_public.specs.declared.public_key.PublicKey.{PublicKey}
 use Rattle.sshkey_entries.specs.Items.{patterns}

@@ -2,7 +2,7 @@
 use Rattle.std.specs.Prelude.{◌≡◌, ◌↔◌, ℕ, List, length, Bool, true, IsTrue, Option, None, Some, ◌≢◌, ◌++◌, slice_index, false, option_map}
 use Rattle.base64.specs.Engines.{standard}
 use Rattle.base64.specs.GeneralPurpose.{encode_of, IsBytes}
-use Rattle.sshkey_base.specs.Source.{Source, IsSound}
+use Rattle.sshkey_base.specs.Reading.{Source, IsSound}
 use Rattle.sshkey_entries.specs.Entries.{IsNoEntry, hash_sign}
 use Rattle.sshkey_entries.specs.HostVerdicts.{AreFor, HidesEntry, IsForOthers, Lists, ListsOther}
 use Rattle.sshkey_entries.specs.KnownHosts.{Hosts, IsHosts, Marker}

@@ -2,12 +2,12 @@
 use Rattle.std.proofs.Common.{◌≡◌, ◌≤◌, ◌<◌, ℕ, zero, suc, Bool, true, false, ◌||◌, Option, None, Some, List, [], ◌∷◌, length, Result, Ok, Err, refl, ap, ◌∙◌, arith}
 use Rattle.std.proofs.lemmas.List.{nil_from_length}
 use Rattle.std.specs.List.{list_any}
-use Rattle.sshkey_base.specs.Answers.{AnswersAlways}
+use Rattle.sshkey_base.specs.Judgements.{AnswersAlways}
 use Rattle.sshkey_base.specs.Causes.{Cause}
 use Rattle.sshkey_model.specs.Formats.{Format, IsFormat}
 use Rattle.sshkey_model.proofs.CombinedReaders.{ok_is}
 use Rattle.sshkey_model.specs.Reading.{Fault, ◌>>=◌, Whole, checked_at, checked_whole, list_whole, list_within}
-use Rattle.sshkey_terms.proofs.Each.{leaves_less}
+use Rattle.sshkey_terms.proofs.ReadLists.{leaves_less}
 use Rattle.sshkey_terms.proofs.SliceFronts.{answers_err, answers_ok}
 use Rattle.sshkey_model.specs.ToEnd.{HasBytes}
 use denote.Ref.{Bor}

@@ -6,7 +6,7 @@ use Rattle.std.specs.Prelude.{bytes_eq}
 use Rattle.std.specs.List.{list_any}
 use Rattle.sha1.specs.Sha1.{sha1}
 use Rattle.sha2.specs.Sha256.{sha256}
-use Rattle.sshkey_base.specs.Answers.{AnswersAlways, Judges}
+use Rattle.sshkey_base.specs.Judgements.{AnswersAlways, Judges}
 use Rattle.sshkey_base.specs.Causes.{Cause}
 use Rattle.sshkey_base.specs.Reading.{NoSpelling, Refuses}
 use Rattle.sshkey_terms.proofs.SliceFronts.{taken_value}

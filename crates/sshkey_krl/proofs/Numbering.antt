@@ -2,8 +2,8 @@
 use Rattle.std.proofs.Common.{◌≡◌, ℕ, Bool, true, List, [], ◌∷◌, ◌++◌, ltb, Result, Ok, Err, refl, subst}
 use Rattle.std.proofs.lemmas.Bool.{and_parts}
 use Rattle.std.specs.Int.{w8}
-use Rattle.sshkey_base.proofs.Judging.{answers_first, answers_later}
-use Rattle.sshkey_base.specs.Answers.{AnswersAlways}
+use Rattle.sshkey_base.proofs.Steps.{answers_first, answers_later}
+use Rattle.sshkey_base.specs.Judgements.{AnswersAlways}
 use Rattle.sshkey_base.specs.Causes.{Cause}
 use Rattle.sshkey_model.specs.Formats.{Format}
 use Rattle.sshkey_model.proofs.CombinedReaders.{number_reads, wide8}

@@ -1,8 +1,8 @@
 -- What a part about certificates says, by its kind.
 use Rattle.std.proofs.Common.{◌≡◌, ℕ, Bool, List, [], ◌∷◌, Result, Ok, Err, refl}
 use Rattle.std.specs.Int.{w64}
-use Rattle.sshkey_base.proofs.Judging.{answers_first, answers_later}
-use Rattle.sshkey_base.specs.Answers.{AnswersAlways}
+use Rattle.sshkey_base.proofs.Steps.{answers_first, answers_later}
+use Rattle.sshkey_base.specs.Judgements.{AnswersAlways}
 use Rattle.sshkey_base.specs.Causes.{Cause}
 use Rattle.sshkey_model.specs.Reading.{Fault, ◌>>=◌, checked_whole, end_of, list_whole, number_at, string_at, whole, after_at}
 use denote.Ref.{Bor}

@@ -1,9 +1,9 @@
 -- What a section says, by its kind.
 use Rattle.std.proofs.Common.{◌≡◌, ◌<◌, ℕ, Bool, true, false, ◌&&◌, Option, Some, None, List, [], ◌∷◌, length, Result, Ok, Err, refl, sym, subst, ◌∙◌, arith}
 use Rattle.std.specs.Prelude.{is_some, if◌then◌else◌}
-use Rattle.sshkey_base.proofs.Judging.{answers_first, answers_later}
+use Rattle.sshkey_base.proofs.Steps.{answers_first, answers_later}
 use Rattle.sshkey_base.proofs.Accepted.{whole_spelled}
-use Rattle.sshkey_base.specs.Answers.{AnswersAlways}
+use Rattle.sshkey_base.specs.Judgements.{AnswersAlways}
 use Rattle.sshkey_base.specs.Causes.{Cause, Faulty}
 use Rattle.sshkey_model.specs.Leaves.{array_format, string_format}
 use Rattle.sshkey_model.specs.Keys.{Key, normal_key, SpellsKey, key_data_at}

@@ -1,7 +1,7 @@
 //! What stands before the sections.
 
 ghost use Rattle.std.specs.Prelude.{ℕ, List};
-ghost use Rattle.sshkey_base.specs.Answers.{AnswersAlways};
+ghost use Rattle.sshkey_base.specs.Judgements.{AnswersAlways};
 ghost use Rattle.sshkey_base.specs.Causes.{cause};
 ghost use Rattle.sshkey_model.specs.Formats.{IsFormat};
 ghost use Rattle.sshkey_model.specs.Leaves.{number32_format, string_format};
@@ -29,7 +29,7 @@ pub(crate) type Header<'a> = Then<
 pub(crate) struct Magic;
 
 /// Fails with `FormatEncoding` for other bytes.
-#[tactic(auto, using(crate::proofs::Lawful::magic_lawful, sshkey_terms::proofs::Walking::walking), unfolding(sshkey_model::specs::Reading::literal_at))]
+#[tactic(auto, using(crate::proofs::Lawful::magic_lawful, sshkey_terms::proofs::Walks::walking), unfolding(sshkey_model::specs::Reading::literal_at))]
 impl<'a> ReadFrom<&'a [u8]> for Magic {
     type Error = Error;
 
@@ -64,7 +64,7 @@ fn check_magic(bytes: &[u8]) -> Result<Magic>
 pub(crate) struct Version;
 
 /// Fails with `Version` and its number for another version than 1.
-#[tactic(auto, using(crate::proofs::Lawful::version_lawful, sshkey_terms::proofs::Walking::walking))]
+#[tactic(auto, using(crate::proofs::Lawful::version_lawful, sshkey_terms::proofs::Walks::walking))]
 impl<'a> ReadFrom<&'a [u8]> for Version {
     type Error = Error;
 
@@ -99,7 +99,7 @@ fn check_version(number: u32) -> Result<Version>
 pub(crate) struct Comment<'a>(pub &'a [u8]);
 
 /// Fails with `FormatEncoding` for a zero byte that is not the last.
-#[tactic(auto, using(crate::proofs::Lawful::comment_lawful, sshkey_terms::proofs::Walking::walking))]
+#[tactic(auto, using(crate::proofs::Lawful::comment_lawful, sshkey_terms::proofs::Walks::walking))]
 impl<'a> ReadFrom<&'a [u8]> for Comment<'a> {
     type Error = Error;
 

@@ -2,7 +2,7 @@
 
 ghost use Rattle.std.specs.Prelude.{Bool, Ok};
 ghost use Rattle.std.specs.List.{list_any};
-ghost use Rattle.sshkey_base.specs.Answers.{AnswersAlways};
+ghost use Rattle.sshkey_base.specs.Judgements.{AnswersAlways};
 ghost use Rattle.sshkey_base.specs.Causes.{cause};
 ghost use Rattle.sshkey_model.specs.Formats.{Format, IsFormat};
 ghost use Rattle.sshkey_model.specs.Reading.{checked_at, checked_whole, list_whole};

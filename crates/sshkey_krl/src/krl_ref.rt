@@ -2,7 +2,7 @@
 
 ghost use Rattle.std.specs.Prelude.{◌≡◌, true, Ok};
 ghost use Rattle.std.specs.List.{list_any};
-ghost use Rattle.sshkey_base.specs.Answers.{AnswersAlways, Judges};
+ghost use Rattle.sshkey_base.specs.Judgements.{AnswersAlways, Judges};
 ghost use Rattle.sshkey_base.specs.Causes.{cause};
 ghost use Rattle.sshkey_model.specs.Reading.{checked_whole, whole};
 ghost use Rattle.sshkey_terms.specs.Slices.{is_taken};

@@ -1,7 +1,7 @@
 //! Values that a number of one byte calls for, each in a string.
 
 ghost use Rattle.std.specs.Prelude.{ℕ, Bool, Ok, Result as Answer};
-ghost use Rattle.sshkey_base.specs.Answers.{AnswersAlways};
+ghost use Rattle.sshkey_base.specs.Judgements.{AnswersAlways};
 ghost use Rattle.sshkey_base.specs.Causes.{cause, encoding_cause};
 ghost use Rattle.sshkey_model.specs.Formats.{Format};
 ghost use Rattle.sshkey_model.specs.Reading.{Fault, checked_at, checked_whole, end_of, number_at, whole};

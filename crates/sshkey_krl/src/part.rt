@@ -1,7 +1,7 @@
 //! The parts of a section about certificates: serial numbers and key ids.
 
 ghost use Rattle.std.specs.Prelude.{ℕ, List, Ok};
-ghost use Rattle.sshkey_base.specs.Answers.{AnswersAlways};
+ghost use Rattle.sshkey_base.specs.Judgements.{AnswersAlways};
 ghost use Rattle.sshkey_base.specs.Causes.{cause};
 ghost use Rattle.sshkey_model.specs.Reading.{checked_whole, whole};
 ghost use Rattle.sshkey_krl.specs.Query.{key_id_says, part_says, query_of, serial_says};

@@ -1,7 +1,7 @@
 //! Serial numbers: one, a range, or the bits of a number.
 
 ghost use Rattle.std.specs.Prelude.{◌≡◌};
-ghost use Rattle.sshkey_base.specs.Answers.{AnswersAlways};
+ghost use Rattle.sshkey_base.specs.Judgements.{AnswersAlways};
 ghost use Rattle.sshkey_base.specs.Causes.{cause};
 ghost use Rattle.sshkey_krl.specs.Revocation.{Bitmap, Range, bitmap_from, fits, has_bit, is_bitmap, is_negative, range_from, serial_from, significant};
 

@@ -1,7 +1,7 @@
 //! Texts of a list: strings after which a zero byte may stand.
 
 ghost use Rattle.std.specs.Prelude.{◌≡◌};
-ghost use Rattle.sshkey_base.specs.Answers.{AnswersAlways};
+ghost use Rattle.sshkey_base.specs.Judgements.{AnswersAlways};
 ghost use Rattle.sshkey_base.specs.Causes.{cause};
 ghost use Rattle.sshkey_krl.specs.Parts.{text_from};
 ghost use Rattle.sshkey_krl.specs.Revocation.{without_zero};

@@ -4,7 +4,7 @@ use Rattle.sshkey_model.specs.Parts.{bytes, ◌&◌, flat}
 use Rattle.sshkey_model.specs.KeyPairs.{zero_if}
 use Rattle.sshkey_base.specs.declared.encoding.Error.{Error}
 use Rattle.sshkey_base.specs.Sink.{Sink, Stopped, Wrote, Writes, Encodes, NotWritten}
-use Rattle.sshkey_base.proofs.PlainParts.{plain_parts, encodes_later}
+use Rattle.sshkey_base.proofs.WrittenLists.{plain_parts, encodes_later}
 use Rattle.sshkey_base.proofs.Writing.{plain_bytes, not_first}
 
 joined_bytes : (fault : Error → Type 0) (a b : List ℕ) (s t : Sink) (r : Result (Unit {0}) Error) → Encodes fault (bytes a & bytes b) s r t → Encodes fault (bytes (a ++ b)) s r t

@@ -1,14 +1,14 @@
 -- What the private halves of pairs mean.
 use Rattle.std.specs.Prelude.{ℕ, List, ◌==◌, length, take, drop, Ok, Err, if◌then◌else◌}
 use Rattle.sshkey_model.specs.KeyPairs.{RsaPrivate, KeyPair, DsaPair, EcdsaPair, Ed25519Pair, RsaPair}
-use Rattle.sshkey_base.specs.Mpint.{mpint_of}
+use Rattle.sshkey_base.specs.Values.{mpint_of}
 use Rattle.sshkey_pair_kinds.specs.declared.dsa.DsaPrivateKey.{DsaPrivateKey}
 use Rattle.sshkey_pair_kinds.specs.declared.ecdsa.EcdsaPrivateKey.{EcdsaPrivateKey}
 use Rattle.sshkey_pair_kinds.specs.declared.ed25519.Ed25519PrivateKey.{Ed25519PrivateKey}
 use Rattle.sshkey_pair_kinds.specs.declared.rsa.RsaPrivateKey.{RsaPrivateKey}
 use Rattle.sshkey_model.specs.Reading.{Whole, Length}
 use Rattle.sshkey_model.specs.Names.{Curve, Nistp256, Nistp384, Nistp521}
-use Rattle.sshkey_kinds.specs.EcPoint.{point_of}
+use Rattle.sshkey_kinds.specs.Kinds.{point_of}
 use Rattle.sshkey_pair_kinds.specs.declared.dsa.DsaKeypair.{DsaKeypair}
 use Rattle.sshkey_pair_kinds.specs.declared.rsa.RsaKeypair.{RsaKeypair}
 use Rattle.sshkey_pair_kinds.specs.declared.ecdsa.EcdsaKeypair.{EcdsaKeypair}

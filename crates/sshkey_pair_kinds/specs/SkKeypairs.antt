@@ -2,8 +2,7 @@
 use Rattle.std.specs.Prelude.{ℕ, List, [], ◌∷◌, ◌++◌}
 use Rattle.sshkey_model.specs.KeyPairs.{KeyPair, SkEcdsaPair, SkEd25519Pair, SecurityPrivate}
 use Rattle.sshkey_kinds.specs.Comparisons.{sk_ecdsa_parts, sk_ed25519_parts}
-use Rattle.sshkey_kinds.specs.EcPoint.{point_of}
-use Rattle.sshkey_kinds.specs.Kinds.{sk_ecdsa_point, sk_ecdsa_application, sk_ed25519_key, sk_ed25519_application}
+use Rattle.sshkey_kinds.specs.Kinds.{point_of, sk_ecdsa_point, sk_ecdsa_application, sk_ed25519_key, sk_ed25519_application}
 use Rattle.sshkey_pair_kinds.specs.SkEcdsaSha2NistP256.{SkEcdsaSha2NistP256}
 use Rattle.sshkey_pair_kinds.specs.SkEd25519.{SkEd25519}
 use Rattle.sshkey_pair_kinds.specs.declared.held.Held.{Held}

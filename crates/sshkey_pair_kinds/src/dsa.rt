@@ -5,7 +5,7 @@ ghost use Rattle.std.specs.Prelude.{◌≡◌, ◌+◌, ◌*◌, ◌^◌, List, 
 ghost use Rattle.sshkey_model.specs.KeyPairs.{KeyPair, pair, Plain};
 ghost use Rattle.sshkey_model.specs.Mpints.{mpint_at};
 ghost use Rattle.sshkey_model.specs.Texts.{string};
-ghost use Rattle.sshkey_base.specs.Mpint.{mpint_of};
+ghost use Rattle.sshkey_base.specs.Values.{mpint_of};
 ghost use Rattle.sshkey_pair_kinds.specs.Pairs.{dsa_private_of};
 
 use sshkey_base::{
@@ -79,10 +79,8 @@ impl Decode for DsaPrivateKey {
     ghost use Rattle.sshkey_base.specs.Causes.{cause};
     ghost use Rattle.sshkey_base.specs.Formats.{Stops};
     ghost use Rattle.sshkey_model.specs.Mpints.{mpint_format};
-    ghost use Rattle.sshkey_base.specs.Needs.{Asks};
+    ghost use Rattle.sshkey_base.specs.Reading.{Asks, DecodesWide, Later};
     ghost use Rattle.sshkey_model.specs.Needs.{NeedsString};
-    ghost use Rattle.sshkey_base.specs.Reading.{DecodesWide};
-    ghost use Rattle.sshkey_base.specs.Source.{Later};
 
     type Error = Error;
 
@@ -157,7 +155,7 @@ impl From<DsaKeypair> for DsaPublicKey {
 ///
 /// Fails with `Length` if a string passes what is left, and with `FormatEncoding` if its bytes are
 /// those of no number.
-#[tactic(auto, using(crate::proofs::Lawful::dsa_pair_lawful, sshkey_terms::proofs::Mapped::mapped, sshkey_terms::proofs::Lawful::checked_read))]
+#[tactic(auto, using(crate::proofs::Lawful::dsa_pair_lawful, sshkey_terms::proofs::Records::mapped, sshkey_terms::proofs::Lawful::checked_read))]
 impl Decode for DsaKeypair {
     ghost use Rattle.sshkey_model.specs.KeyPairs.{dsa_pair_format};
     ghost use Rattle.sshkey_pair_kinds.specs.Pairs.{dsa_pair_of};

@@ -8,13 +8,11 @@ ghost use Rattle.sshkey_model.specs.Parts.{bytes};
 ghost use Rattle.sshkey_base.specs.Names.{curve_of};
 ghost use Rattle.sshkey_base.specs.Causes.{cause};
 ghost use Rattle.sshkey_base.specs.Formats.{Stops};
-ghost use Rattle.sshkey_base.specs.Needs.{Asks};
+ghost use Rattle.sshkey_base.specs.Reading.{Asks, Gives, Later};
 ghost use Rattle.sshkey_model.specs.Needs.{NoNeed};
-ghost use Rattle.sshkey_base.specs.Reading.{Gives};
-ghost use Rattle.sshkey_base.specs.Source.{Later};
 ghost use Rattle.sshkey_base.specs.declared.encoding.Error.TheVariants as narrow;
 ghost use Rattle.sshkey_base.specs.declared.error.Error.TheVariants as wide;
-ghost use Rattle.sshkey_kinds.specs.EcdsaPublicKey.{ecdsa_key_of};
+ghost use Rattle.sshkey_kinds.specs.Kinds.{ecdsa_key_of};
 ghost use Rattle.sshkey_pair_kinds.specs.Pairs.{ecdsa_pair_of, ecdsa_private_of};
 
 use sshkey_base::{
@@ -232,7 +230,7 @@ pub enum EcdsaKeypair {
 
 impl EcdsaKeypair {
     ghost use Rattle.sshkey_base.specs.Names.{algorithm_of};
-    ghost use Rattle.sshkey_kinds.specs.EcdsaPublicKey.{ecdsa_of};
+    ghost use Rattle.sshkey_kinds.specs.Kinds.{ecdsa_of};
     ghost use Rattle.sshkey_model.specs.KeyPairs.{EcdsaPair, IsScalar, pair_algorithm, public_half, private_bytes};
     ghost use Rattle.sshkey_model.specs.Points.{field_size};
     ghost use Rattle.sshkey_pair_kinds.specs.Pairs.{ecdsa_curve_of, ecdsa_point_of};
@@ -331,7 +329,7 @@ impl From<EcdsaKeypair> for EcdsaPublicKey {
 ///
 /// Fails with the errors of `EcdsaPublicKey`, and then with those of `EcdsaPrivateKey` for a scalar
 /// as wide as the field of that key's curve.
-#[tactic(auto, using(crate::proofs::Lawful::any_ecdsa_pair_lawful, sshkey_terms::proofs::Chosen::chosen, sshkey_terms::proofs::Needless::needless_parts, crate::proofs::Lawful::ecdsa_pair_chosen))]
+#[tactic(auto, using(crate::proofs::Lawful::any_ecdsa_pair_lawful, sshkey_terms::proofs::Records::chosen, sshkey_terms::proofs::Walks::needless_parts, crate::proofs::Lawful::ecdsa_pair_chosen))]
 impl Decode for EcdsaKeypair {
     type Error = Error;
 

@@ -4,10 +4,10 @@ ghost use Rattle.std.specs.Fmt.{WritesOnOk, WritesStyledOnOk};
 ghost use Rattle.std.specs.Prelude.{◌≡◌, ◌+◌, ◌*◌, ◌^◌, ◌++◌, take, drop, codes, Some};
 ghost use Rattle.hex.specs.Hex.{encode_lower, encode_upper};
 ghost use Rattle.rand_core.specs.Stream.{fill_bytes};
-ghost use Rattle.sshkey_base.specs.Answers.{AnswersAlways};
+ghost use Rattle.sshkey_base.specs.Judgements.{AnswersAlways};
 ghost use Rattle.sshkey_base.specs.Causes.{cause};
 ghost use Rattle.sshkey_model.specs.KeyPairs.{KeyPair, Ed25519Pair, pair, Plain, ed25519_halves_from, ed25519_pair_format};
-ghost use Rattle.sshkey_kinds.specs.Ed25519PublicKey.{ed25519_from};
+ghost use Rattle.sshkey_kinds.specs.Kinds.{ed25519_from};
 ghost use Rattle.sshkey_pair_kinds.specs.Pairs.{ed25519_pair_of, ed25519_pair_from, ed25519_private_of};
 
 use rand_core::{CryptoRng, Rng};
@@ -188,7 +188,7 @@ impl From<Ed25519Keypair> for Ed25519PublicKey {
 ///
 /// Fails with `Length` for a string that is too short, with `TrailingData` for one that is too
 /// long, and with `Crypto` if the public bytes differ. Does not allocate.
-#[tactic(auto, using(crate::proofs::Lawful::ed25519_pair_lawful, sshkey_terms::proofs::Mapped::mapped, sshkey_terms::proofs::Lawful::checked_read))]
+#[tactic(auto, using(crate::proofs::Lawful::ed25519_pair_lawful, sshkey_terms::proofs::Records::mapped, sshkey_terms::proofs::Lawful::checked_read))]
 impl Decode for Ed25519Keypair {
     type Error = Error;
 

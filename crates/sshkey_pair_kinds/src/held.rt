@@ -52,7 +52,7 @@ impl Held {
 }
 
 /// The flags, the key handle and the reserved bytes.
-#[tactic(auto, using(crate::proofs::Lawful::security_private_lawful, sshkey_terms::proofs::Mapped::mapped, sshkey_terms::proofs::Lawful::checked_read))]
+#[tactic(auto, using(crate::proofs::Lawful::security_private_lawful, sshkey_terms::proofs::Records::mapped, sshkey_terms::proofs::Lawful::checked_read))]
 impl Decode for Held {
     ghost use Rattle.sshkey_model.specs.KeyPairs.{security_private_format};
 

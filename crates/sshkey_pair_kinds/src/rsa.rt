@@ -57,7 +57,7 @@ impl RsaPrivateKey {
 ///
 /// Fails with `Length` if a string passes what is left, and with `FormatEncoding` if its bytes are
 /// those of no number.
-#[tactic(auto, using(crate::proofs::Lawful::rsa_private_lawful, sshkey_terms::proofs::Mapped::mapped, sshkey_terms::proofs::Lawful::checked_read))]
+#[tactic(auto, using(crate::proofs::Lawful::rsa_private_lawful, sshkey_terms::proofs::Records::mapped, sshkey_terms::proofs::Lawful::checked_read))]
 impl Decode for RsaPrivateKey {
     ghost use Rattle.sshkey_model.specs.KeyPairs.{rsa_private_format};
     ghost use Rattle.sshkey_pair_kinds.specs.Pairs.{rsa_private_of};
@@ -157,7 +157,7 @@ impl From<RsaKeypair> for RsaPublicKey {
 ///
 /// Fails with `Length` if a string passes what is left, and with `FormatEncoding` if its bytes are
 /// those of no number.
-#[tactic(auto, using(crate::proofs::Lawful::rsa_pair_lawful, sshkey_terms::proofs::Mapped::mapped, sshkey_terms::proofs::Lawful::checked_read))]
+#[tactic(auto, using(crate::proofs::Lawful::rsa_pair_lawful, sshkey_terms::proofs::Records::mapped, sshkey_terms::proofs::Lawful::checked_read))]
 impl Decode for RsaKeypair {
     ghost use Rattle.sshkey_model.specs.KeyPairs.{rsa_pair_format};
     ghost use Rattle.sshkey_pair_kinds.specs.Pairs.{rsa_pair_of};

@@ -111,7 +111,7 @@ impl fmt::Debug for SkEd25519 {
 ///
 /// Fails with the errors of the public key, and then with `Length` where a string passes what is
 /// left. The key handle may have any number of bytes.
-#[tactic(auto, using(crate::proofs::Lawful::sk_ecdsa_pair_lawful, sshkey_terms::proofs::Mapped::mapped, sshkey_terms::proofs::Lawful::checked_read))]
+#[tactic(auto, using(crate::proofs::Lawful::sk_ecdsa_pair_lawful, sshkey_terms::proofs::Records::mapped, sshkey_terms::proofs::Lawful::checked_read))]
 impl Decode for SkEcdsaSha2NistP256 {
     ghost use Rattle.sshkey_model.specs.KeyPairs.{sk_ecdsa_pair_format};
 
@@ -135,7 +135,7 @@ impl Decode for SkEcdsaSha2NistP256 {
 ///
 /// Fails with the errors of the public key, and then with `Length` where a string passes what is
 /// left. The key handle may have any number of bytes.
-#[tactic(auto, using(crate::proofs::Lawful::sk_ed25519_pair_lawful, sshkey_terms::proofs::Mapped::mapped, sshkey_terms::proofs::Lawful::checked_read))]
+#[tactic(auto, using(crate::proofs::Lawful::sk_ed25519_pair_lawful, sshkey_terms::proofs::Records::mapped, sshkey_terms::proofs::Lawful::checked_read))]
 impl Decode for SkEd25519 {
     ghost use Rattle.sshkey_model.specs.KeyPairs.{sk_ed25519_pair_format};
 

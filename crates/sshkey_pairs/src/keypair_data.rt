@@ -3,10 +3,8 @@
 ghost use Rattle.std.specs.Prelude.{◌≡◌, ◌^◌, true, false, Option, Some, None, Err, IfOk, IfErr, IfSome, IsOk, IsTrue, ◌||◌};
 ghost use Rattle.sshkey_base.specs.Causes.{cause};
 ghost use Rattle.sshkey_base.specs.Names.{IsFixed, algorithm_of, curve_of};
-ghost use Rattle.sshkey_base.specs.Needs.{Asks};
-ghost use Rattle.sshkey_base.specs.Source.{Later};
-ghost use Rattle.sshkey_keys.specs.KeyKinds.{is_ecdsa, is_ed25519};
-ghost use Rattle.sshkey_keys.specs.Keys.{key_of, stored_algorithm as key_algorithm_beside};
+ghost use Rattle.sshkey_base.specs.Reading.{Asks, Later};
+ghost use Rattle.sshkey_keys.specs.Keys.{is_ecdsa, is_ed25519, key_of, stored_algorithm as key_algorithm_beside};
 ghost use Rattle.sshkey_model.specs.KeyPairs.{IsKeyPair, xor_all, words};
 ghost use Rattle.sshkey_model.specs.Keys.{IsKey, unhashed};
 ghost use Rattle.sshkey_model.specs.Names.{Dsa, Ecdsa, Ed25519, Rsa, SkEcdsa, SkEd25519 as AlgorithmSkEd25519, Other, algorithm_name};
@@ -186,7 +184,7 @@ impl KeypairData {
 ///
 /// An RSA pair may stand under a name with a hash, which is not kept. Fails with `Label` for a name
 /// of no algorithm, and with the faults of the kind.
-#[tactic(auto, using(crate::proofs::Keypairs::keypair_lawful, sshkey_terms::proofs::Chosen::chosen, crate::proofs::Keypairs::keypair_chosen))]
+#[tactic(auto, using(crate::proofs::Keypairs::keypair_lawful, sshkey_terms::proofs::Records::chosen, crate::proofs::Keypairs::keypair_chosen))]
 impl Decode for KeypairData {
     ghost use Rattle.sshkey_model.specs.KeyPairs.{KeyPair, keypair_format};
 

@@ -60,10 +60,8 @@ impl Decode for OpaquePrivateKeyBytes {
     ghost use Rattle.sshkey_base.specs.Causes.{encoding_cause};
     ghost use Rattle.sshkey_base.specs.Formats.{Stops};
     ghost use Rattle.sshkey_model.specs.Leaves.{string_format};
-    ghost use Rattle.sshkey_base.specs.Needs.{Asks};
+    ghost use Rattle.sshkey_base.specs.Reading.{Asks, Decodes, Later};
     ghost use Rattle.sshkey_model.specs.Needs.{NeedsString};
-    ghost use Rattle.sshkey_base.specs.Reading.{Decodes};
-    ghost use Rattle.sshkey_base.specs.Source.{Later};
 
     type Error = encoding::Error;
 
@@ -126,7 +124,7 @@ impl OpaqueKeypairBytes {
 
 /// A string of the public bytes, and one of the private bytes. Fails with `Length` if one passes
 /// what is left.
-#[tactic(auto, using(sshkey_terms::proofs::Mapped::mapped, sshkey_terms::proofs::Lawful::checked_read))]
+#[tactic(auto, using(sshkey_terms::proofs::Records::mapped, sshkey_terms::proofs::Lawful::checked_read))]
 impl Decode for OpaqueKeypairBytes {
     ghost use Rattle.std.specs.Prelude.{[]};
     ghost use Rattle.sshkey_model.specs.KeyPairs.{KeyPair, opaque_pair_format};

@@ -17,7 +17,7 @@ use Rattle.sshkey_pairs.specs.Keypairs.{ciphertext_of, pair_of, is_encrypted, op
 use Rattle.sshkey_pair_kinds.specs.Pairs.{dsa_pair_of, rsa_pair_of, ecdsa_pair_of, ed25519_pair_of}
 use Rattle.sshkey_pair_kinds.specs.SkKeypairs.{sk_ecdsa_pair_of, sk_ed25519_pair_of}
 use Rattle.sshkey_private.specs.declared.private_key.write.Part.{Part}
-use Rattle.sshkey_base.proofs.Measured.{Has}
+use Rattle.sshkey_base.proofs.Writing.{Has}
 
 no_cipher : (c : Cipher) → is_no_cipher c ≡ true → c ≡ NoCipher
 no_cipher NoCipher is = refl

@@ -10,10 +10,9 @@ use Rattle.sshkey_private.proofs.Lawful.{part_lawful}
 use Rattle.std.proofs.lemmas.Bool.{eqb-true}
 use Rattle.std.proofs.lemmas.List.{nil_from_length}
 use Rattle.sshkey_base.specs.Causes.{Cause, Faulty}
-use Rattle.sshkey_base.specs.Source.{Source, announced_len}
+use Rattle.sshkey_base.specs.Reading.{Source, announced_len, Gives, Reads, ReadsAll, IsRefused}
 use Rattle.sshkey_base.specs.declared.encoding.Error as encoding
 use Rattle.sshkey_base.specs.declared.encoding.Error.TheVariants as encodings
-use Rattle.sshkey_base.specs.Reading.{Gives, Reads, ReadsAll, IsRefused}
 use Rattle.sshkey_model.proofs.Grammars.{whole_spells}
 use Rattle.sshkey_private.specs.PrivateKeyFormats.{private_value_at, padded_value_at, last_of, sealed_with, last_encrypted_at, opening_at, NeedsContent, OverrunsContent, unencrypted_below, last_content_at, steps_at, not_encrypted, delimited_by}
 use Rattle.sshkey_private.proofs.PrivateKeyGrammars.{decoder, private_key_lawful, padded_key_lawful}
@@ -21,7 +20,7 @@ use Rattle.sshkey_private.proofs.PrivateKeyTrees.{private_key_tree, plain_paddin
 use Rattle.sshkey_model.specs.KeyDerivation.{Cipher, Kdf, NoCipher, NoKdf, Bcrypt}
 use Rattle.sshkey_ciphers.specs.Formats.{sealed_format}
 use Rattle.sshkey_model.specs.Needs.{NeedsString}
-use Rattle.sshkey_base.specs.Stops.{RanOut, Stopped, StopsBy}
+use Rattle.sshkey_base.specs.Formats.{RanOut, Stopped, StopsBy}
 use Rattle.sshkey_model.specs.Overruns.{OverrunsString}
 use Rattle.sshkey_base.proofs.Stopping.{checked_stopped}
 use Rattle.sshkey_terms.proofs.Lawful.{IsChosen}

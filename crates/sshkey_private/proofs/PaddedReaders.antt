@@ -6,9 +6,8 @@ use Rattle.sshkey_model.specs.Reading.{Fault, Length, FormatEncoding, ◌>>=◌,
 use Rattle.sshkey_model.specs.PrivateKeys.{rising}
 use Rattle.sshkey_model.proofs.CombinedReaders.{ok_is, bind_assoc, bind_same}
 use Rattle.sshkey_base.specs.Causes.{Cause, NoMemory, Faulty}
-use Rattle.sshkey_base.specs.Source.{Source, IsSound, announced_len}
-use Rattle.sshkey_base.specs.Reading.{Reads, IsRefused}
-use Rattle.sshkey_base.specs.Stops.{RanOut}
+use Rattle.sshkey_base.specs.Reading.{Source, IsSound, announced_len, Reads, IsRefused}
+use Rattle.sshkey_base.specs.Formats.{RanOut}
 use Rattle.sshkey_ciphers.specs.Formats.{end_padding_below, padding_end}
 use Rattle.sshkey_private.specs.PrivateParts.{padded_below, NeedsPadded}
 

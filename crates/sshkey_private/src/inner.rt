@@ -1,19 +1,15 @@
 //! The private part of a key that is not encrypted.
 
 ghost use Rattle.std.specs.Prelude.{◌≡◌, true, IfOk, suc};
-ghost use Rattle.sshkey_base.specs.Answers.{AnswersAlways};
+ghost use Rattle.sshkey_base.specs.Judgements.{AnswersAlways};
 ghost use Rattle.sshkey_base.specs.Causes.{cause};
-ghost use Rattle.sshkey_base.specs.Formats.{Stops};
-ghost use Rattle.sshkey_base.specs.Needs.{Asks};
+ghost use Rattle.sshkey_base.specs.Formats.{Stops, StopsPast};
+ghost use Rattle.sshkey_base.specs.Reading.{Asks, Gives, Later};
 ghost use Rattle.sshkey_model.specs.Needs.{NoNeed};
-ghost use Rattle.sshkey_base.specs.Reading.{Gives};
 ghost use Rattle.sshkey_model.specs.Reading.{to_end};
-ghost use Rattle.sshkey_base.specs.Source.{Later};
-ghost use Rattle.sshkey_base.specs.Stops.{StopsPast};
 ghost use Rattle.sshkey_pairs.specs.Keypairs.{pair_of, opaque_pair_of};
 ghost use Rattle.sshkey_keys.specs.Keys.{key_of};
-ghost use Rattle.sshkey_kinds.specs.EcdsaPublicKey.{ecdsa_key_of};
-ghost use Rattle.sshkey_kinds.specs.Kinds.{opaque_of};
+ghost use Rattle.sshkey_kinds.specs.Kinds.{ecdsa_key_of, opaque_of};
 ghost use Rattle.sshkey_model.specs.KeyPairs.{public_half, keypair_format};
 ghost use Rattle.sshkey_model.specs.PrivateKeys.{key_eq};
 ghost use Rattle.sshkey_pair_kinds.specs.Pairs.{ecdsa_pair_of};
@@ -98,7 +94,7 @@ fn inner_from<R: Reader>(alloc: Global, reader: &mut R, public: &KeyData) -> Res
 }
 
 /// A checkint, and the same again.
-#[tactic(auto, using(sshkey_base::proofs::Steps::steps, sshkey_base::proofs::Judging::judged, sshkey_base::proofs::Judging::judged_asks), unfolding(crate::specs::PrivateParts::checkint_at))]
+#[tactic(auto, using(sshkey_base::proofs::Steps::steps, sshkey_base::proofs::Steps::judged, sshkey_base::proofs::Steps::judged_asks), unfolding(crate::specs::PrivateParts::checkint_at))]
 fn checkint_from<R: Reader>(alloc: Global, reader: &mut R) -> Result<u32>
     ensures gives { Gives (λ n. n) cause checkint_at
         (R.source reader.old) result (R.source reader.new) }
@@ -121,7 +117,7 @@ fn check_again(checkint: u32, again: u32) -> Result<u32>
 }
 
 /// A pair whose public half is that key.
-#[tactic(auto, using(sshkey_base::proofs::Steps::steps, sshkey_base::proofs::Stopping::checked_stopped, sshkey_base::proofs::Judging::judged, sshkey_base::proofs::Judging::judged_asks), unfolding(crate::specs::PrivateParts::pair_with_at))]
+#[tactic(auto, using(sshkey_base::proofs::Steps::steps, sshkey_base::proofs::Stopping::checked_stopped, sshkey_base::proofs::Steps::judged, sshkey_base::proofs::Steps::judged_asks), unfolding(crate::specs::PrivateParts::pair_with_at))]
 fn pair_from<R: Reader>(alloc: Global, reader: &mut R, public: &KeyData) -> Result<KeypairData>
     ensures gives { Gives pair_of cause (pair_with_at (key_of public.now))
         (R.source reader.old) result (R.source reader.new) }

@@ -1,12 +1,10 @@
 //! What stands before the private part of a key.
 
 ghost use Rattle.std.specs.Prelude.{ℕ, List};
-ghost use Rattle.sshkey_base.specs.Answers.{AnswersAlways};
+ghost use Rattle.sshkey_base.specs.Judgements.{AnswersAlways};
 ghost use Rattle.sshkey_base.specs.Causes.{cause};
-ghost use Rattle.sshkey_base.specs.Needs.{Asks};
-ghost use Rattle.sshkey_base.specs.Reading.{Gives};
-ghost use Rattle.sshkey_base.specs.Source.{Later};
-ghost use Rattle.sshkey_base.specs.Stops.{StopsBy};
+ghost use Rattle.sshkey_base.specs.Reading.{Asks, Gives, Later};
+ghost use Rattle.sshkey_base.specs.Formats.{StopsBy};
 ghost use Rattle.sshkey_model.specs.PrivateKeys.{private_key_magic};
 ghost use Rattle.sshkey_model.specs.Reading.{literal_from};
 ghost use Rattle.sshkey_private.specs.PrivateKeyFormats.{opening_of, magic_of, one_of, one_key, magic_format, one_format, opening_parts, opening_at};
@@ -46,7 +44,7 @@ type Keys = Then<One, LengthPrefixed<KeyData>>;
 ///
 /// Fails with `FormatEncoding` for other bytes than the magic ones, with `Label` for names of none,
 /// the errors of `Kdf`, with `Length` for another number of keys, and the errors of `KeyData`.
-#[tactic(auto, using(sshkey_terms::proofs::Mapped::mapped, crate::proofs::Lawful::opening_parts_read))]
+#[tactic(auto, using(sshkey_terms::proofs::Records::mapped, crate::proofs::Lawful::opening_parts_read))]
 pub(crate) fn opening_from<R: Reader>(alloc: Global, reader: &mut R) -> Result<Opening>
     ensures gives { Gives opening_of cause opening_at
         (R.source reader.old) result (R.source reader.new) }

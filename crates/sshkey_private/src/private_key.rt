@@ -53,9 +53,7 @@ impl Decode for PrivateKey {
     ghost use Rattle.std.specs.Prelude.{IfOk};
     ghost use Rattle.sshkey_base.specs.Causes.{cause};
     ghost use Rattle.sshkey_base.specs.Formats.{Stops};
-    ghost use Rattle.sshkey_base.specs.Needs.{Asks};
-    ghost use Rattle.sshkey_base.specs.Reading.{Gives};
-    ghost use Rattle.sshkey_base.specs.Source.{Later};
+    ghost use Rattle.sshkey_base.specs.Reading.{Asks, Gives, Later};
     ghost use Rattle.sshkey_model.specs.PrivateKeys as model;
     ghost use Rattle.sshkey_model.specs.PrivateKeys.{IsPrivateKey};
     ghost use Rattle.sshkey_private.specs.PrivateKeyFormats.{NeedsPrivateKey, private_key_format, private_value_at};
@@ -123,17 +121,13 @@ impl NormalForm for PrivateKey {
 
 impl PrivateKey {
     ghost use Rattle.sshkey_pairs.specs.Keypairs.{pair_of, public_of as public_half_of, stored_algorithm as pair_algorithm_beside};
-    ghost use Rattle.sshkey_keys.specs.KeyKinds.{is_ecdsa, is_ed25519};
+    ghost use Rattle.sshkey_keys.specs.Keys.{is_ecdsa, is_ed25519, GivesFingerprint, IsShort, stored_algorithm};
     ghost use Rattle.std.specs.Prelude.{IfOk, IfErr, IfSome, IsOk, IsTrue, ◌||◌, Some, [], string_bytes};
     ghost use Rattle.sshkey_base.specs.Causes.{cause};
     ghost use Rattle.sshkey_base.specs.Names.{IsFixed, algorithm_of, hash_of};
-    ghost use Rattle.sshkey_base.specs.Needs.{Asks};
-    ghost use Rattle.sshkey_base.specs.Reading.{AcceptsWhole, GivesWhole};
-    ghost use Rattle.sshkey_base.specs.Source.{all_of};
+    ghost use Rattle.sshkey_base.specs.Reading.{Asks, AcceptsWhole, GivesWhole, all_of};
     ghost use Rattle.sshkey_base.specs.declared.error.Error.TheVariants as wide;
     ghost use Rattle.sshkey_keys.specs.Blobs.{MakesBlob};
-    ghost use Rattle.sshkey_keys.specs.Fingerprints.{GivesFingerprint, IsShort};
-    ghost use Rattle.sshkey_keys.specs.Keys.{stored_algorithm};
     ghost use Rattle.sshkey_model.specs.KeyPairs.{IsKeyPair};
     ghost use Rattle.sshkey_model.specs.Keys.{IsKey};
     ghost use Rattle.sshkey_model.specs.PrivateKeys.{IsPrivateKey, key_cipher, key_kdf, public_key, normal_private_key};

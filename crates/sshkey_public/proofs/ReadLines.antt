@@ -11,14 +11,12 @@ use Rattle.sshkey_model.proofs.LineCuts.{seam_space, without_space, one_cut}
 use Rattle.sshkey_public.specs.Words.{AreWords, CutsWord, IsOnlyCut, IsFaultOfWords, HasFaultOfWords}
 use Rattle.sshkey_base.specs.Causes.{cause, NoMemory, Faulty}
 use Rattle.sshkey_model.specs.Formats.{Format}
-use Rattle.sshkey_base.specs.Needs.{Asks}
-use Rattle.sshkey_base.specs.Source.{Source}
-use Rattle.sshkey_base.specs.Stops.{StopsPast}
+use Rattle.sshkey_base.specs.Reading.{Asks, Source, GivesWhole, AcceptsWhole}
+use Rattle.sshkey_base.specs.Formats.{StopsPast}
 use Rattle.sshkey_base.specs.declared.error.Error as wide
 use Rattle.sshkey_base64.specs.Words64.{IsSourceOf, word_source}
 use Rattle.sshkey_public.specs.Lines.{AsksWord, HasFaultOfWord, HasFaultOfLine, RefusesWord, IsWordOf, IsNoWord, StandsInLines, ReadsWord}
 use Rattle.sshkey_model.specs.Reading.{whole}
-use Rattle.sshkey_base.specs.Reading.{GivesWhole, AcceptsWhole}
 use Rattle.sshkey_base.specs.declared.encoding.Error.TheVariants.{Base64}
 use Rattle.sshkey_base.specs.declared.error.Error.TheVariants.{AlgorithmUnknown, Encoding}
 use Rattle.sshkey_base64.proofs.GoodBytes.{length_word}

@@ -9,10 +9,9 @@ use Rattle.sshkey_base.specs.declared.encoding.Error.TheVariants.{Length}
 use Rattle.sshkey_base.specs.declared.error.Error.{Error}
 use Rattle.sshkey_base.specs.declared.error.Error.TheVariants.{Encoding, Memory}
 use Rattle.sshkey_keys.specs.Keys.{key_of}
-use Rattle.sshkey_keys.specs.Signatures.{signature_of}
-use Rattle.sshkey_keys.specs.Verdicts.{SignatureRefusal, NotAccepted, judged, verdict, Says, Verifies}
+use Rattle.sshkey_keys.specs.Signatures.{signature_of, SignatureRefusal, NotAccepted, judged, verdict, Says, Verifies}
 use Rattle.sshkey_model.specs.Signatures.{Signature}
-use Rattle.sshkey_base.specs.Acceptance.{AcceptsExactly}
+use Rattle.sshkey_base.specs.Judgements.{AcceptsExactly}
 use Rattle.sshkey_public.specs.PublicKeys.{JudgesSigned}
 use Rattle.sshkey_sshsig.specs.SshSignatures.{ssh_signature_of, signer_of, given_of}
 use Rattle.sshkey_sshsig.specs.declared.sshsig.SshSig.{SshSig}

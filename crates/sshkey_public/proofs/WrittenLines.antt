@@ -11,8 +11,8 @@ use Rattle.sshkey_model.specs.Parts.{Parts, bytes, ◌&◌, flat, BoxesFit}
 use Rattle.sshkey_base.specs.declared.encoding.Error.{Error}
 use Rattle.sshkey_base.specs.Sink.{Sink, Writes, Written, NotWritten, Encodes}
 use Rattle.sshkey_base.proofs.Writing.{plain_bytes}
-use Rattle.sshkey_base.proofs.PlainParts.{plain_parts, encodes_later, encodes_first}
-use Rattle.sshkey_base64.proofs.Pieces.{both_bytes, nothing_written}
+use Rattle.sshkey_base.proofs.WrittenLists.{plain_parts, encodes_later, encodes_first}
+use Rattle.sshkey_base64.proofs.Encoding.{both_bytes, nothing_written}
 use Rattle.sshkey_model.specs.Keys.{key_algorithm, SpellsKey}
 use Rattle.sshkey_model.proofs.Blobs.{key_blobs}
 use Rattle.sshkey_model.proofs.ShortNames.{short_name}

@@ -1,7 +1,7 @@
 //! Texts in files.
 
 ghost use Rattle.std.specs.Prelude.{◌≢◌, IfErr};
-ghost use Rattle.sshkey_base.specs.Faults.{IsMachineFault};
+ghost use Rattle.sshkey_base.specs.Causes.{IsMachineFault};
 ghost use Rattle.sshkey_base.specs.declared.error.Error.TheVariants.{Io};
 ghost use Rattle.sshkey_public.specs.Inputs.{ReadsFileText};
 

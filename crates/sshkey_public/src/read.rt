@@ -2,7 +2,7 @@
 
 ghost use Rattle.std.specs.Prelude.{◌≡◌, ◌≢◌, IfOk, IfErr, IfSome, OnOk};
 ghost use Rattle.std.specs.Io.KnownBytes.{IsAtEnd};
-ghost use Rattle.sshkey_base.specs.Faults.{IsMachineFault};
+ghost use Rattle.sshkey_base.specs.Causes.{IsMachineFault};
 ghost use Rattle.sshkey_base.specs.declared.error.Error.TheVariants.{Io};
 ghost use Rattle.sshkey_public.specs.Inputs.{IsPassed, ReadsText};
 

@@ -9,7 +9,7 @@ use Rattle.std.proofs.lemmas.Slice.Eq.{bytes_eq-Decides, starts_is}
 use Rattle.std.specs.Char.{to_ascii_lowercase}
 use Rattle.base64.specs.Engines.{standard}
 use Rattle.base64.specs.GeneralPurpose.{IsBytes, encode_of}
-use Rattle.sshkey_base.specs.Source.{Advances, Source, announced_len}
+use Rattle.sshkey_base.specs.Reading.{Advances, Source, announced_len}
 use Rattle.sshkey_base64.specs.Words64.{IsSourceOf}
 use Rattle.sshkey_base64.proofs.GoodBytes.{length_word}
 use Rattle.sshkey_model.proofs.Base64Words.{one_blob, some_word}

@@ -3,9 +3,9 @@ use Rattle.std.proofs.Common.{refl, ◌≡◌, ℕ, List, [], length, Bool, true
 use Rattle.std.specs.Prelude.{IfErr, IfOk, is_ok}
 use Rattle.std.specs.Str.{IsUtf8}
 use Rattle.std.proofs.lemmas.Str.{IsUtf8-from_ascii}
-use Rattle.sshkey_base.proofs.CertifiedNames.{certified_ascii}
+use Rattle.sshkey_base.proofs.OtherNames.{certified_ascii}
 use Rattle.sshkey_base.proofs.Labels.{ascii}
-use Rattle.sshkey_base.specs.Answers.{Judges}
+use Rattle.sshkey_base.specs.Judgements.{Judges}
 use Rattle.sshkey_base.specs.Causes.{cause}
 use Rattle.sshkey_base.specs.declared.error.Error.{Error}
 use Rattle.sshkey_base.specs.declared.error.Error.TheVariants.{FormatEncoding, Memory}

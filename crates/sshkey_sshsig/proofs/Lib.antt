@@ -1,4 +1,1 @@
-pub mod Measured
-mod SignedParts
-pub mod Lawful
-pub mod SshSignatureTrees
+pub mod SshSignatures

@@ -8,7 +8,7 @@ use Rattle.sshkey_model.specs.Keys.{Head256}
 use Rattle.sshkey_model.specs.SshSignatures.{SshSignature, ssh_signature, normal_ssh_signature}
 use Rattle.sshkey_model.specs.SshSignatureExamples.{file_signature}
 use Rattle.sshkey_model.specs.KeyExamples.{ed25519_bytes, rsa_key, rsa_bytes, rsa_256_bytes}
-use Rattle.sshkey_sshsig.specs.SshSignatureReaders.{ssh_signature_value_at}
+use Rattle.sshkey_sshsig.specs.SshSignatureFormats.{ssh_signature_value_at}
 
 abbrev pub signature_box : List ℕ
 signature_box = hex "00000053 0000000b 7373682d65643235353139 00000040" ++ replicate 64 0

@@ -1,6 +1,6 @@
 -- The format of SSH signatures (PROTOCOL.sshsig): the term that they are read as.
 use Rattle.std.specs.Prelude.{ℕ, List, length, Result, Ok, Err, nat_lt, if◌then◌else◌}
-use Rattle.sshkey_model.specs.Reading.{Fault, Version, Namespace}
+use Rattle.sshkey_model.specs.Reading.{Fault, Version, Namespace, Front}
 use Rattle.sshkey_model.specs.Keys.{Key, key_format}
 use Rattle.sshkey_model.specs.Names.{Hash, hash_format}
 use Rattle.sshkey_model.specs.Signatures.{Signature, signature_format}
@@ -49,3 +49,12 @@ ssh_signature_of_parts x = Ok (ssh_signature_with x)
 
 abbrev pub ssh_signature_format : Format SshSignature
 ssh_signature_format = tested ssh_signature_of_parts (opening_format then statement_format)
+
+-- Which bytes spell an SSH signature, and how they are read.
+
+abbrev pub ssh_signature_value_at : Front SshSignature
+ssh_signature_value_at = ssh_signature_format.read
+
+-- the bytes spell the SSH signature
+abbrev pub SpellsSshSignature : SshSignature → List ℕ → Type 0
+SpellsSshSignature = ssh_signature_format.Spells

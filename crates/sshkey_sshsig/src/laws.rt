@@ -1,18 +1,16 @@
 //! Laws of SSH signatures: each stands for all values, and makes no call.
 
-#![tactic(auto, using(crate::proofs::SshSignatureTrees::laws))]
+#![tactic(auto, using(crate::proofs::SshSignatures::laws))]
 
 ghost use Rattle.std.specs.Prelude.{◌≡◌, ◌↔◌, ◌++◌, ℕ, List, length};
 ghost use Rattle.sshkey_base.specs.Comparisons.{EqualMeanSame, IsEqualityAmong};
-ghost use Rattle.sshkey_base.specs.Digests.{digest_len};
+ghost use Rattle.sshkey_base.specs.Names.{digest_len};
 ghost use Rattle.sshkey_model.specs.Grammar.{IsGrammar, IsSpelled, SpellsWith, spelled};
 ghost use Rattle.sshkey_model.specs.Laws.{DetermineValues, ReadBack};
 ghost use Rattle.sshkey_model.specs.Parts.{BoxesFit, IsPrefixFree};
 ghost use Rattle.sshkey_model.specs.SshSignatures.{SshSignature, IsSshSignature, HasSshSignaturePlaces, ssh_signature, normal_ssh_signature};
-ghost use Rattle.sshkey_sshsig.specs.Comparisons.{IsByKey};
-ghost use Rattle.sshkey_sshsig.specs.Signing.{digest_parts, signed_parts};
-ghost use Rattle.sshkey_sshsig.specs.SshSignatureReaders.{SpellsSshSignature, ssh_signature_value_at};
-ghost use Rattle.sshkey_sshsig.specs.SshSignatures.{ssh_signature_of};
+ghost use Rattle.sshkey_sshsig.specs.SshSignatures.{IsByKey, digest_parts, signed_parts, ssh_signature_of};
+ghost use Rattle.sshkey_sshsig.specs.SshSignatureFormats.{SpellsSshSignature, ssh_signature_value_at};
 
 use crate::sshsig::SshSig;
 use sshkey_base::laws::compared_hashes;

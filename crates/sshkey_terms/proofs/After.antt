@@ -1,8 +1,7 @@
 -- A call that reads a value and what follows it.
 use Rattle.std.proofs.Common.{ℕ, List, refl, ◌∙◌}
 use Rattle.sshkey_base.specs.Causes.{Cause}
-use Rattle.sshkey_base.specs.Reading.{IsRefused, Reads}
-use Rattle.sshkey_base.specs.Source.{Source}
+use Rattle.sshkey_base.specs.Reading.{IsRefused, Reads, Source}
 use Rattle.sshkey_model.specs.Reading.{Front, after_at}
 use Rattle.sshkey_base.proofs.Steps.{refused_first, refused_later}
 use Rattle.sshkey_model.proofs.Grammars.{both_at}

@@ -13,8 +13,7 @@ use Rattle.sshkey_base.proofs.Lengths.{boxed_lengths, checked_lengths, no_length
 use Rattle.sshkey_model.specs.Terms.{dependent, ◌then◌, tested, needing, without_memory, boxed, literal_format, or_nothing, or_nothing_at, called, read_as, known_as}
 use Rattle.sshkey_model.specs.Counted.{values_format, counted_format}
 use Rattle.sshkey_model.specs.ToEnd.{HasBytes, each_after, values_to_end}
-use Rattle.sshkey_terms.proofs.CountedLists.{values_grammar, values_lengths}
-use Rattle.sshkey_terms.proofs.ListsToEnd.{to_end_grammar, each_lengths, row_grammar, row_lengths}
+use Rattle.sshkey_terms.proofs.Lists.{values_grammar, values_lengths, to_end_grammar, each_lengths, row_grammar, row_lengths}
 
 abbrev pub with_first : {A B : Type 0} → A → B × List ℕ → Result ((A × B) × List ℕ) Fault
 with_first a y = Ok ((a, y.0), y.1)

@@ -1,16 +1,9 @@
 pub mod Lawful
-pub mod CountedLists
-pub mod ListsToEnd
+pub mod Lists
 pub mod Stopping
-pub mod Mapped
-pub mod Tested
-pub mod Chosen
-pub mod Needless
-pub mod Walking
-pub mod Each
-pub mod Gathering
+pub mod Records
+pub mod Walks
+pub mod ReadLists
 pub mod After
-mod Measured
-mod Filled
-mod Past
+mod CountedValues
 pub mod SliceFronts

@@ -9,9 +9,9 @@ use Rattle.sshkey_model.specs.Reading.{Fault, Length, ◌>>=◌, Front, Whole, b
 use Rattle.sshkey_model.proofs.CombinedReaders.{number_reads, wide32}
 use Rattle.sshkey_model.specs.Grammar.{IsGrammar}
 use Rattle.sshkey_model.proofs.Grammars.{none_spelled}
-use Rattle.sshkey_base.specs.Answers.{AnswersAlways}
+use Rattle.sshkey_base.specs.Judgements.{AnswersAlways}
 use Rattle.sshkey_base.specs.Causes.{Cause, Faulty}
-use Rattle.sshkey_base.proofs.Judging.{answers_first, answers_later}
+use Rattle.sshkey_base.proofs.Steps.{answers_first, answers_later}
 use Rattle.sshkey_terms.specs.Slices.{Splits, is_taken, AcceptsSplit}
 
 -- ---- what an answer says of the plain reader

@@ -7,9 +7,8 @@ use Rattle.sshkey_base.specs.declared.encoding.Error as encoding
 use Rattle.sshkey_base.specs.declared.error.Error.{Error}
 use Rattle.sshkey_base.specs.Causes.{Cause, Faulty, cause, encoding_cause, widened, same_cause}
 use Rattle.sshkey_model.specs.Needs.{NeedsThen}
-use Rattle.sshkey_base.specs.Reading.{Reads}
-use Rattle.sshkey_base.specs.Source.{Source}
-use Rattle.sshkey_base.specs.Stops.{RanOut, Stopped, StopsBy}
+use Rattle.sshkey_base.specs.Reading.{Reads, Source}
+use Rattle.sshkey_base.specs.Formats.{RanOut, Stopped, StopsBy}
 use Rattle.sshkey_model.specs.Overruns.{OverrunsThen, AreLengths}
 use Rattle.sshkey_base.proofs.Stopping.{step_ok, checked_stopped, read_past}
 use Rattle.sshkey_terms.proofs.Lawful.{IsMapped, with_first}

@@ -7,8 +7,7 @@ ghost use Rattle.sshkey_model.specs.Formats.{IsFormat};
 ghost use Rattle.sshkey_model.specs.Leaves.{array_format, number32_format, number64_format, string_format};
 ghost use Rattle.sshkey_model.specs.Texts.{text_format};
 ghost use Rattle.sshkey_base.specs.Nested.{nested_source};
-ghost use Rattle.sshkey_base.specs.Reading.{DecodesAlways, GivesAlways};
-ghost use Rattle.sshkey_base.specs.Source.{Later, all_of};
+ghost use Rattle.sshkey_base.specs.Reading.{DecodesAlways, GivesAlways, Later, all_of};
 ghost use Rattle.sshkey_model.specs.Reading.{bytes_at};
 
 use crate::read_from::ReadFrom;
@@ -17,7 +16,7 @@ use sshkey_base::encoding::{Error, Result};
 use sshkey_base::{NestedReader, Reader, array_from, length_from};
 
 /// A number of four bytes, most significant first. Fails with `Length` if fewer are left.
-#[tactic(auto, using(sshkey_base::proofs::Lawful::number32_lawful, sshkey_base::proofs::Steps::steps, crate::proofs::Past::past), unfolding(sshkey_model::specs::Reading::number_at))]
+#[tactic(auto, using(sshkey_base::proofs::Lawful::number32_lawful, sshkey_base::proofs::Steps::steps, crate::proofs::Walks::past), unfolding(sshkey_model::specs::Reading::number_at))]
 impl<R: Reader> ReadFrom<R> for u32 {
     type Error = Error;
 
@@ -36,7 +35,7 @@ impl<R: Reader> ReadFrom<R> for u32 {
 }
 
 /// A number of eight bytes, most significant first. Fails with `Length` if fewer are left.
-#[tactic(auto, using(sshkey_base::proofs::Lawful::number64_lawful, sshkey_base::proofs::Steps::steps, crate::proofs::Past::past), unfolding(sshkey_model::specs::Reading::number_at))]
+#[tactic(auto, using(sshkey_base::proofs::Lawful::number64_lawful, sshkey_base::proofs::Steps::steps, crate::proofs::Walks::past), unfolding(sshkey_model::specs::Reading::number_at))]
 impl<R: Reader> ReadFrom<R> for u64 {
     type Error = Error;
 
@@ -56,7 +55,7 @@ impl<R: Reader> ReadFrom<R> for u64 {
 
 /// A string of exactly `N` bytes. Fails with `Length` for a shorter one, with `TrailingData` for a
 /// longer one.
-#[tactic(auto, using(sshkey_base::proofs::Boxes::boxes, crate::proofs::Past::past))]
+#[tactic(auto, using(sshkey_base::proofs::Boxes::boxes, crate::proofs::Walks::past))]
 impl<const N: usize, R: Reader> ReadFrom<R> for [u8; N] {
     type Error = Error;
 
@@ -81,7 +80,7 @@ impl<const N: usize, R: Reader> ReadFrom<R> for [u8; N] {
 }
 
 /// A string of any bytes. Fails with `Length` if the length or its bytes are not all there.
-#[tactic(auto, using(sshkey_base::proofs::Lawful::string_lawful, crate::proofs::Walking::walking), unfolding(sshkey_model::specs::Reading::string_at))]
+#[tactic(auto, using(sshkey_base::proofs::Lawful::string_lawful, crate::proofs::Walks::walking), unfolding(sshkey_model::specs::Reading::string_at))]
 impl<'a> ReadFrom<&'a [u8]> for &'a [u8] {
     type Error = Error;
 
@@ -103,7 +102,7 @@ impl<'a> ReadFrom<&'a [u8]> for &'a [u8] {
 
 /// A string whose bytes are UTF-8. The faults of a string, and `CharacterEncoding` where they are
 /// not UTF-8.
-#[tactic(auto, using(sshkey_base::proofs::Lawful::text_lawful, crate::proofs::Walking::walking), unfolding(sshkey_model::specs::Texts::text_at))]
+#[tactic(auto, using(sshkey_base::proofs::Lawful::text_lawful, crate::proofs::Walks::walking), unfolding(sshkey_model::specs::Texts::text_at))]
 impl<'a> ReadFrom<&'a [u8]> for &'a str {
     type Error = Error;
 

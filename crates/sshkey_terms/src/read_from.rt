@@ -1,8 +1,7 @@
 //! Values that one kind of reader gives, without memory.
 
 ghost use Rattle.sshkey_model.specs.Formats.{Format, IsFormat};
-ghost use Rattle.sshkey_base.specs.Reading.{GivesAlways};
-ghost use Rattle.sshkey_base.specs.Source.{Later};
+ghost use Rattle.sshkey_base.specs.Reading.{GivesAlways, Later};
 ghost use Rattle.sshkey_terms.specs.Past.{StopsPastAlways};
 
 use sshkey_base::{DecodeError, Reader};

@@ -3,7 +3,7 @@
 ghost use Rattle.std.specs.Int.{w32, w64};
 ghost use Rattle.sshkey_model.specs.Reading.{bytes_at, number_at, string_at};
 ghost use Rattle.sshkey_model.specs.Texts.{text_at, text_from, SpellsText};
-ghost use Rattle.sshkey_base.specs.Answers.{AnswersAlways};
+ghost use Rattle.sshkey_base.specs.Judgements.{AnswersAlways};
 ghost use Rattle.sshkey_base.specs.Causes.{encoding_cause};
 ghost use Rattle.sshkey_model.specs.Leaves.{SpellsNumber32, SpellsNumber64, SpellsString};
 ghost use Rattle.sshkey_terms.specs.Slices.{AcceptsSplit, Splits};

@@ -3,8 +3,7 @@ use Rattle.std.proofs.Common.{Bool, true, false, ◌≡◌, ◌≢◌, ◌<◌, 
 use Rattle.std.specs.Prelude.{string_bytes}
 use Rattle.std.specs.Io.KnownBytes.{Appends}
 use Rattle.std.specs.Str.{IsUtf8}
-use Rattle.sshkey_base.specs.Causes.{cause, NoMemory}
-use Rattle.sshkey_base.specs.Faults.{IsMachineFault}
+use Rattle.sshkey_base.specs.Causes.{cause, NoMemory, IsMachineFault}
 use Rattle.sshkey_base.specs.declared.encoding.Error.TheVariants as encoding
 use Rattle.sshkey_base.specs.declared.error.Error.{Error}
 use Rattle.sshkey_base.specs.declared.error.Error.TheVariants as wide

@@ -10,8 +10,7 @@ use Rattle.sshkey_model.specs.Keys.{Key, normal_key}
 use Rattle.sshkey_model.specs.Lines.{IsKeyLine}
 use Rattle.sshkey_model.specs.Parts.{BoxesFit}
 use Rattle.sshkey_model.proofs.NormalKeysFit.{normal_boxes}
-use Rattle.sshkey_base.specs.Causes.{cause, NoMemory}
-use Rattle.sshkey_base.specs.Faults.{IsMachineFault}
+use Rattle.sshkey_base.specs.Causes.{cause, NoMemory, IsMachineFault}
 use Rattle.sshkey_base.specs.declared.error.Error.{Error}
 use Rattle.sshkey_entries.specs.AuthorizedKeys.{AuthorizedKey, IsAuthorizedKey, authorized_text}
 use Rattle.sshkey_entries.specs.Entries.{entries}

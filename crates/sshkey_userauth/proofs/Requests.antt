@@ -2,18 +2,17 @@
 use Rattle.std.proofs.Common.{ℕ, List, Result, Ok, Err, ◌∙◌, ◌≡◌, [], false, IsTrue, refl, sym, subst, ◌+◌}
 use Rattle.sshkey_model.specs.Reading.{Front, checked_at, after_at, Fault, whole}
 use Rattle.sshkey_base.specs.Causes.{Cause}
-use Rattle.sshkey_base.specs.Reading.{Reads, Refuses, GivesAlways, NoSpelling}
-use Rattle.sshkey_base.specs.Source.{Source}
+use Rattle.sshkey_base.specs.Reading.{Reads, Refuses, GivesAlways, NoSpelling, Source}
 use Rattle.sshkey_base.proofs.Steps.{refuses_first, refuses_later}
 use Rattle.sshkey_terms.proofs.Lawful.{called_chosen}
 use Rattle.std.specs.Prelude.{◌↔◌}
 use Rattle.sshkey_model.specs.Grammar.{Grammar, IsGrammar}
 use Rattle.sshkey_model.proofs.Grammars.{one_front, whole_spells}
-use Rattle.sshkey_base.specs.Answers.{AnswersAlways}
+use Rattle.sshkey_base.specs.Judgements.{AnswersAlways}
 use Rattle.sshkey_terms.specs.Slices.{AcceptsAll}
 use Rattle.sshkey_model.specs.Parts.{Parts, BoxesFit, bytes, flat, ◌&◌}
 use Rattle.sshkey_model.specs.Texts.{string}
-use Rattle.sshkey_base.proofs.Measured.{Has, both_have}
+use Rattle.sshkey_base.proofs.Writing.{Has, both_have}
 use Rattle.sshkey_userauth.specs.Requests.{UserauthRequest, has_signature, keys, message_number, method_name, method_of, userauth_request}
 
 module _ {A B : Type 0} (first : Front A) (second : A → Front B) where

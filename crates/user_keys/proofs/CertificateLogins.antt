@@ -15,7 +15,7 @@ use Rattle.sshkey_base.specs.declared.error.Error.TheVariants as error
 use Rattle.sshkey_cert.specs.Validity.{fingerprint_of}
 use Rattle.sshkey_cert_values.specs.CertificateFields.{options_of}
 use Rattle.sshkey_fingerprints.specs.declared.fingerprint.Fingerprint.{Fingerprint}
-use Rattle.sshkey_keys.specs.Fingerprints.{IsFingerprint}
+use Rattle.sshkey_keys.specs.Keys.{IsFingerprint}
 use Rattle.sshkey_model.specs.Certificates.{Certificate, normal_certificate, SpellsCertificate}
 use Rattle.sshkey_model.specs.Fingerprints.{fingerprint}
 use Rattle.sshkey_model.specs.Fingerprints as model

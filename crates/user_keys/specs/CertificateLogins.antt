@@ -17,7 +17,7 @@ use Rattle.openssh_limits.specs.Limits.{openssh_accepts_key}
 use Rattle.sshkey_base.specs.Reading.{NoSpelling}
 use Rattle.sshkey_base.specs.declared.error.Error.{Error}
 use Rattle.sshkey_cert.specs.Certificates.{IsFaultOf}
-use Rattle.sshkey_keys.specs.Fingerprints.{IsFingerprint}
+use Rattle.sshkey_keys.specs.Keys.{IsFingerprint}
 use Rattle.sshkey_krl.specs.Revocation as krl
 use Rattle.sshkey_model.specs.Certificates.{Certificate, normal_certificate, certificate_format, SpellsCertificate}
 use Rattle.sshkey_model.specs.Fingerprints.{Fingerprint, fingerprint}

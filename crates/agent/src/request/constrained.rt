@@ -2,10 +2,8 @@
 
 ghost use Rattle.ssh_key.specs.base.Causes.{cause};
 ghost use Rattle.ssh_key.specs.base.Formats.{Stops};
-ghost use Rattle.ssh_key.specs.base.Needs.{Asks};
-ghost use Rattle.ssh_key.specs.base.Reading.{Gives};
+ghost use Rattle.ssh_key.specs.base.Reading.{Asks, Gives, Later};
 ghost use Rattle.ssh_key.specs.base.Sink.{Encodes, MeasuresBoxed};
-ghost use Rattle.ssh_key.specs.base.Source.{Later};
 ghost use Rattle.agent.specs.Requests.{constrained, constrained_body, request_of};
 
 use super::Request;

@@ -7,14 +7,11 @@ ghost use Rattle.sshkey_model.specs.Names.{Other, named};
 ghost use Rattle.sshkey_model.specs.Names as model;
 ghost use Rattle.sshkey_model.specs.Parts.{bytes};
 ghost use Rattle.sshkey_model.specs.Reading as fault;
-ghost use Rattle.sshkey_base.specs.Reading.{AcceptsFront, DecodesWide};
+ghost use Rattle.sshkey_base.specs.Reading.{AcceptsFront, DecodesWide, Asks, Later};
 ghost use Rattle.sshkey_base.specs.Formats.{Stops};
 ghost use Rattle.sshkey_base.specs.Causes.{cause};
-ghost use Rattle.sshkey_base.specs.Names.{algorithm_of};
-ghost use Rattle.sshkey_base.specs.Answers.{Judges, Names};
-ghost use Rattle.sshkey_base.specs.Labels.{AsksNamed};
-ghost use Rattle.sshkey_base.specs.Needs.{Asks};
-ghost use Rattle.sshkey_base.specs.Source.{Later};
+ghost use Rattle.sshkey_base.specs.Names.{algorithm_of, AsksNamed};
+ghost use Rattle.sshkey_base.specs.Judgements.{Judges, Names};
 ghost use Rattle.sshkey_base.specs.Sink.{Encodes};
 ghost use Rattle.sshkey_base.specs.declared.encoding.Error.TheVariants as encoding;
 

@@ -6,10 +6,9 @@ ghost use Rattle.sshkey_model.specs.Reading as fault;
 ghost use Rattle.sshkey_base.specs.Causes.{Faulty, cause, encoding_cause};
 ghost use Rattle.sshkey_model.specs.Parts.{Any};
 ghost use Rattle.sshkey_model.specs.Points.{field_size};
-ghost use Rattle.sshkey_base.specs.Labels.{AsksNamed, LooksUp, LooksUpAlways};
-ghost use Rattle.sshkey_base.specs.Names.{curve_of};
+ghost use Rattle.sshkey_base.specs.Names.{AsksNamed, LooksUp, LooksUpAlways, curve_of};
 ghost use Rattle.sshkey_model.specs.Needs.{NoNeed};
-ghost use Rattle.sshkey_base.specs.Answers.{NamesAlways};
+ghost use Rattle.sshkey_base.specs.Judgements.{NamesAlways};
 
 use crate::encoding;
 use crate::error::Result;

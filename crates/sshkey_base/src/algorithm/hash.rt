@@ -6,11 +6,9 @@ ghost use Rattle.sshkey_model.specs.Names.{Hash, hash_name, hash_from};
 ghost use Rattle.sshkey_model.specs.Reading as fault;
 ghost use Rattle.sshkey_base.specs.Causes.{Faulty, cause, encoding_cause};
 ghost use Rattle.sshkey_model.specs.Parts.{Any};
-ghost use Rattle.sshkey_base.specs.Labels.{AsksNamed, LooksUp, LooksUpAlways};
-ghost use Rattle.sshkey_base.specs.Names.{hash_of};
+ghost use Rattle.sshkey_base.specs.Names.{AsksNamed, LooksUp, LooksUpAlways, hash_of, digest_len};
 ghost use Rattle.sshkey_model.specs.Needs.{NoNeed};
-ghost use Rattle.sshkey_base.specs.Answers.{NamesAlways};
-ghost use Rattle.sshkey_base.specs.Digests.{digest_len};
+ghost use Rattle.sshkey_base.specs.Judgements.{NamesAlways};
 
 use crate::encoding;
 use crate::error::{Error, Result};

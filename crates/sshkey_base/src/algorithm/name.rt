@@ -11,9 +11,8 @@ ghost use Rattle.sshkey_model.specs.CertificateNames.{certificate_name, suffix};
 ghost use Rattle.sshkey_model.specs.Names.{Other, are_ascii, at_sign, is_own_name};
 ghost use Rattle.sshkey_model.specs.Parts.{bytes, ◌&◌};
 ghost use Rattle.sshkey_base.specs.Causes.{cause};
-ghost use Rattle.sshkey_base.specs.Labels.{LooksUp};
-ghost use Rattle.sshkey_base.specs.Answers.{Judges, Names};
-ghost use Rattle.sshkey_base.specs.AlgorithmName.{own_name_from, NamesCertified, JudgesCertified, IsNoCertificateType, IsCutOf, IsWithoutSuffix, AreCertifiedParts, are_own_parts};
+ghost use Rattle.sshkey_base.specs.Names.{LooksUp, own_name_from, NamesCertified, JudgesCertified, IsNoCertificateType, IsCutOf, IsWithoutSuffix, AreCertifiedParts, are_own_parts};
+ghost use Rattle.sshkey_base.specs.Judgements.{Judges, Names};
 ghost use Rattle.sshkey_base.specs.Sink.{Encodes};
 ghost use Rattle.sshkey_base.specs.declared.encoding.Error.TheVariants as encoding;
 

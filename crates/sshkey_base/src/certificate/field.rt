@@ -1,7 +1,7 @@
 //! Fields of certificates.
 
 ghost use Rattle.std.specs.Prelude.{◌≡◌, Some};
-ghost use Rattle.sshkey_base.specs.Fields.{field_text};
+ghost use Rattle.sshkey_base.specs.Names.{field_text};
 
 use crate::error::Error;
 use std::convert::AsStr;

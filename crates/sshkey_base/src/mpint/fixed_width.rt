@@ -6,8 +6,8 @@ ghost use Rattle.sshkey_model.specs.Grammar.{value_at};
 ghost use Rattle.sshkey_model.specs.Reading.{bytes_at, checked_at};
 ghost use Rattle.sshkey_base.specs.Causes.{cause};
 ghost use Rattle.sshkey_model.specs.Needs.{NoNeed};
-ghost use Rattle.sshkey_base.specs.Source.{Later};
-ghost use Rattle.sshkey_base.specs.Stops.{StopsBy};
+ghost use Rattle.sshkey_base.specs.Reading.{Later};
+ghost use Rattle.sshkey_base.specs.Formats.{StopsBy};
 ghost use Rattle.sshkey_model.specs.Overruns.{OverrunsString};
 ghost use Rattle.sshkey_base.specs.FixedWidth.{fixed_from, fixed_at, GivesBytes, LengthIs};
 

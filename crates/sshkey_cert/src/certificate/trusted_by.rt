@@ -2,7 +2,7 @@
 
 ghost use Rattle.std.specs.Prelude.{◌≡◌, List, true, IfErr, IfOk};
 ghost use Rattle.sshkey_base.specs.declared.error.Error.TheVariants as wide;
-ghost use Rattle.sshkey_keys.specs.Fingerprints.{IsShort};
+ghost use Rattle.sshkey_keys.specs.Keys.{IsShort};
 ghost use Rattle.sshkey_model.specs.Fingerprints.{Fingerprint as TheFingerprint};
 ghost use Rattle.sshkey_model.specs.Refusals.{first_refusal, first_refusal_for, has_trusted_authority};
 ghost use Rattle.sshkey_cert.specs.Certificates.{certificate_of};

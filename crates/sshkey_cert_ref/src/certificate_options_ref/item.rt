@@ -5,7 +5,7 @@ ghost use Rattle.sshkey_model.specs.Options.{is_after, option_at, option_before,
 ghost use Rattle.sshkey_model.specs.Reading.{whole};
 ghost use Rattle.sshkey_model.specs.Terms.{boxed};
 ghost use Rattle.sshkey_model.specs.Texts.{text_at};
-ghost use Rattle.sshkey_base.specs.Answers.{AnswersAlways};
+ghost use Rattle.sshkey_base.specs.Judgements.{AnswersAlways};
 ghost use Rattle.sshkey_base.specs.Causes.{cause, encoding_cause};
 ghost use Rattle.sshkey_cert_ref.specs.SpelledOptions.{pair_of, value_pair_of};
 ghost use Rattle.sshkey_keys_ref.specs.Taking.{TakesValue};
@@ -23,7 +23,7 @@ pub(super) struct SpelledOption<'a> {
 }
 
 /// Takes an option that stands after the one before.
-#[tactic(auto, using(sshkey_terms::proofs::Walking::walking), unfolding(sshkey_model::specs::Options::spelled_option_format, sshkey_model::specs::Reading::after_at))]
+#[tactic(auto, using(sshkey_terms::proofs::Walks::walking), unfolding(sshkey_model::specs::Options::spelled_option_format, sshkey_model::specs::Reading::after_at))]
 pub(super) fn take_option<'a>(
     before: Option<SpelledOption<'a>>,
     bytes: &mut &'a [u8],

@@ -3,8 +3,7 @@
 ghost use Rattle.std.specs.Prelude.{◌≡◌, ◌||◌, [], IfOk, IfErr, IsOk, IsTrue};
 ghost use Rattle.sshkey_base.specs.Causes.{NoMemory, cause};
 ghost use Rattle.sshkey_cert.specs.Certificates.{certificate_of as owned_certificate_of, comment_of};
-ghost use Rattle.sshkey_keys.specs.KeyKinds.{is_ecdsa, is_ed25519};
-ghost use Rattle.sshkey_keys.specs.Keys.{key_of};
+ghost use Rattle.sshkey_keys.specs.Keys.{is_ecdsa, is_ed25519, key_of};
 ghost use Rattle.sshkey_keys.specs.Signatures.{signature_of};
 ghost use Rattle.sshkey_model.specs.Keys.{IsKey};
 ghost use Rattle.sshkey_cert_ref.specs.CertificateRef.{certificate_of};

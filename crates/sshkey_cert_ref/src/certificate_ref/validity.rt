@@ -3,7 +3,7 @@
 ghost use Rattle.std.specs.Prelude.{◌≡◌, ◌≢◌, ◌↔◌, IsTrue, IfOk, IfErr, OnOk};
 ghost use Rattle.sshkey_base.specs.declared.error.Error.TheVariants as wide;
 ghost use Rattle.sshkey_cert.specs.Validity.{IsSigned, IsUnsigned, JudgesCertificate, JudgesCertificateFor};
-ghost use Rattle.sshkey_keys.specs.Fingerprints.{IsFingerprint};
+ghost use Rattle.sshkey_keys.specs.Keys.{IsFingerprint};
 ghost use Rattle.sshkey_model.specs.Keys.{Plain};
 ghost use Rattle.sshkey_model.specs.Names.{Sha256};
 ghost use Rattle.sshkey_model.specs.Principals.{Allows};

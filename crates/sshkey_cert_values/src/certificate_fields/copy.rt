@@ -1,7 +1,7 @@
 //! How the fields of a certificate are copied.
 
 ghost use Rattle.std.specs.Prelude.{◌≡◌, IfOk, IfErr};
-ghost use Rattle.sshkey_base.specs.TextLists.{texts_of};
+ghost use Rattle.sshkey_base.specs.Values.{texts_of};
 ghost use Rattle.sshkey_base.specs.declared.error.Error.TheVariants as wide;
 ghost use Rattle.sshkey_keys.specs.Keys.{stored_algorithm, key_of};
 ghost use Rattle.sshkey_cert_values.specs.CertificateFields.{options_of, to_be_signed_of};

@@ -2,13 +2,10 @@
 
 ghost use Rattle.std.specs.Prelude.{◌≡◌, option_map, string_bytes};
 ghost use Rattle.sshkey_base.specs.Causes.{cause, encoding_cause};
-ghost use Rattle.sshkey_base.specs.Formats.{Stops};
+ghost use Rattle.sshkey_base.specs.Formats.{Stops, StopsPast, StopsToEnd};
 ghost use Rattle.sshkey_base.specs.Nested.{nested_source};
-ghost use Rattle.sshkey_base.specs.Reading.{Decodes, DecodesWide, Gives};
-ghost use Rattle.sshkey_base.specs.Needs.{Asks};
+ghost use Rattle.sshkey_base.specs.Reading.{Decodes, DecodesWide, Gives, Asks, Later};
 ghost use Rattle.sshkey_model.specs.Needs.{HasString};
-ghost use Rattle.sshkey_base.specs.Source.{Later};
-ghost use Rattle.sshkey_base.specs.Stops.{StopsPast, StopsToEnd};
 ghost use Rattle.sshkey_model.specs.Overruns.{OverrunsString};
 ghost use Rattle.sshkey_model.specs.Options.{may_follow, option_format, option_list_format, value_format};
 ghost use Rattle.sshkey_model.specs.Terms.{boxed, needing};

@@ -1,6 +1,6 @@
 //! Fingerprints that are read from their texts.
 
-ghost use Rattle.sshkey_fingerprints.specs.FingerprintTexts.{IsSized, ReadsDigest, ReadsFingerprint};
+ghost use Rattle.sshkey_fingerprints.specs.Fingerprints.{IsSized, ReadsDigest, ReadsFingerprint};
 ghost use Rattle.base64.specs.GeneralPurpose.{IsBytes};
 
 use crate::fingerprint::Fingerprint;

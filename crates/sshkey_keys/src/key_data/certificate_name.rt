@@ -7,8 +7,7 @@ ghost use Rattle.sshkey_model.specs.Names.{algorithm_name, Other};
 ghost use Rattle.sshkey_model.specs.Parts.{bytes};
 ghost use Rattle.sshkey_base.specs.Names.{algorithm_of};
 ghost use Rattle.sshkey_base.specs.Sink.{Encodes};
-ghost use Rattle.sshkey_keys.specs.KeyKinds.{keeps_name};
-ghost use Rattle.sshkey_keys.specs.Keys.{key_of};
+ghost use Rattle.sshkey_keys.specs.Keys.{keeps_name, key_of};
 
 use super::KeyData;
 use sshkey_base::{Algorithm, Encode, Writer, encoding};
@@ -78,7 +77,7 @@ fn keeps_name(algorithm: &Algorithm) -> bool
 }
 
 /// How many bytes the name of an opaque key under that algorithm has in a certificate.
-#[tactic(auto, using(crate::proofs::OpaqueNames::plain_name, crate::proofs::OpaqueNames::own_name, crate::proofs::OpaqueNames::short_name))]
+#[tactic(auto, using(crate::proofs::OpaqueKeys::plain_name, crate::proofs::OpaqueKeys::own_name, crate::proofs::OpaqueKeys::short_name))]
 fn opaque_name_len(algorithm: &Algorithm) -> usize
     ensures value { result
         ≡ length (certificate_name (Other (algorithm_name (algorithm_of algorithm.now)))) }
@@ -91,7 +90,7 @@ fn opaque_name_len(algorithm: &Algorithm) -> usize
 }
 
 /// Writes the name of an opaque key under that algorithm.
-#[tactic(auto, using(sshkey_base::proofs::Writing::plain_bytes, crate::proofs::OpaqueNames::plain_name, crate::proofs::OpaqueNames::own_name))]
+#[tactic(auto, using(sshkey_base::proofs::Writing::plain_bytes, crate::proofs::OpaqueKeys::plain_name, crate::proofs::OpaqueKeys::own_name))]
 fn write_opaque_name<W: Writer>(algorithm: &Algorithm, writer: &mut W) -> encoding::Result<()>
     ensures { Encodes W.fault
         (bytes (certificate_name (Other (algorithm_name (algorithm_of algorithm.now)))))

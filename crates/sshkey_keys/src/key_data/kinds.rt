@@ -1,8 +1,7 @@
 //! Which kind of key a public key is.
 
 ghost use Rattle.std.specs.Prelude.{◌≡◌, false, MatchOption};
-ghost use Rattle.sshkey_keys.specs.KeyKinds.{is_dsa, is_ecdsa, is_ed25519, is_rsa, is_sk_ecdsa, is_sk_ed25519, is_opaque};
-ghost use Rattle.sshkey_keys.specs.Keys.{key_of};
+ghost use Rattle.sshkey_keys.specs.Keys.{is_dsa, is_ecdsa, is_ed25519, is_rsa, is_sk_ecdsa, is_sk_ed25519, is_opaque, key_of};
 
 use super::KeyData;
 use sshkey_kinds::{

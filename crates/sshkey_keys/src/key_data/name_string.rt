@@ -5,7 +5,7 @@ ghost use Rattle.sshkey_model.specs.Lines.{key_name};
 ghost use Rattle.sshkey_model.specs.Texts.{string};
 ghost use Rattle.sshkey_base.specs.Sink.{Encodes};
 ghost use Rattle.sshkey_keys.specs.Keys.{key_of};
-ghost use Rattle.sshkey_keys.specs.NameStrings.{IsStringOf};
+ghost use Rattle.sshkey_keys.specs.Blobs.{IsStringOf};
 
 use super::KeyData;
 use sshkey_base::{Writer, encode_string, encoding};
@@ -14,7 +14,7 @@ use sshkey_kinds::EcdsaPublicKey;
 impl KeyData {
     /// Writes the name as a string. A fixed one stands with its length in one constant, so that it
     /// takes one write.
-    #[tactic(auto, using(sshkey_base::proofs::WholeStrings::whole_string))]
+    #[tactic(auto, using(sshkey_base::proofs::Writing::whole_string))]
     #[inline(always)]
     pub(super) fn encode_name<W: Writer>(&self, writer: &mut W) -> encoding::Result<()>
         ensures { Encodes W.fault (string (key_name (key_of self.now)))

@@ -1,7 +1,7 @@
 //! Which bytes are those of a signature.
 
 ghost use Rattle.std.specs.Prelude.{◌≡◌};
-ghost use Rattle.sshkey_base.specs.Answers.{AnswersAlways};
+ghost use Rattle.sshkey_base.specs.Judgements.{AnswersAlways};
 ghost use Rattle.sshkey_base.specs.Causes.{cause};
 ghost use Rattle.sshkey_base.specs.Names.{algorithm_of};
 ghost use Rattle.sshkey_model.specs.Signatures.{has_trailer, string_from, sized_from, without_trailer, trailer, ecdsa_blob_from, positive_from, after_component};
@@ -90,7 +90,7 @@ fn check_len(len: usize, bytes: &[u8]) -> Result<()>
 }
 
 /// Whether the bytes are two positive numbers of at most `size` bytes each, and nothing more.
-#[tactic(auto, using(sshkey_base::proofs::Judging::answers_first, sshkey_base::proofs::Judging::answers_later), unfolding(sshkey_model::specs::Signatures::ecdsa_blob_from))]
+#[tactic(auto, using(sshkey_base::proofs::Steps::answers_first, sshkey_base::proofs::Steps::answers_later), unfolding(sshkey_model::specs::Signatures::ecdsa_blob_from))]
 fn check_ecdsa(size: usize, bytes: &[u8]) -> Result<()>
     ensures { AnswersAlways (λ _. bytes.now) cause (ecdsa_blob_from size bytes.now) result }
 {

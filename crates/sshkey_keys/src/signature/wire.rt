@@ -1,15 +1,12 @@
 //! How signatures are read and written.
 
 ghost use Rattle.std.specs.Prelude.{◌≡◌, ◌++◌, ◌+◌, ◌*◌, ◌^◌, ◌≤◌, IfOk, IfErr};
-ghost use Rattle.sshkey_base.specs.Reading.{AcceptsWhole, DecodesWide, Gives, GivesWhole};
-ghost use Rattle.sshkey_base.specs.Answers.{Answers, AnswersAlways};
+ghost use Rattle.sshkey_base.specs.Reading.{AcceptsWhole, DecodesWide, Gives, GivesWhole, Asks, Later, all_of};
+ghost use Rattle.sshkey_base.specs.Judgements.{Answers, AnswersAlways};
 ghost use Rattle.sshkey_base.specs.Causes.{cause};
-ghost use Rattle.sshkey_base.specs.Formats.{Stops};
+ghost use Rattle.sshkey_base.specs.Formats.{Stops, StopsBy};
 ghost use Rattle.sshkey_base.specs.Names.{algorithm_of};
-ghost use Rattle.sshkey_base.specs.Needs.{Asks};
 ghost use Rattle.sshkey_model.specs.Needs.{NeedsString};
-ghost use Rattle.sshkey_base.specs.Source.{Later, all_of};
-ghost use Rattle.sshkey_base.specs.Stops.{StopsBy};
 ghost use Rattle.sshkey_base.specs.Sink.{Encodes, Measures};
 ghost use Rattle.sshkey_model.specs.Reading.{checked_at, string_at, whole};
 ghost use Rattle.sshkey_model.specs.Signatures.{Signature as TheSignature, IsSignature, signature, signature_blob, string_from, signature_blob_at, signature_at, trailed_at, OverrunsInside, OverrunsNumbers, blob_format, signature_format, signature_under, SpellsSignature};
@@ -73,7 +70,7 @@ impl Signature {
 ///
 /// Fails with `Label` for a name of no algorithm, and with the faults of `Signature::new`, for
 /// which the bytes after the string are read first.
-#[tactic(auto, using(crate::proofs::Lawful::signature_lawful, sshkey_terms::proofs::Chosen::chosen, crate::proofs::SignatureReaders::signature_chosen, sshkey_base::proofs::Lengths::label_lengths))]
+#[tactic(auto, using(crate::proofs::Lawful::signature_lawful, sshkey_terms::proofs::Records::chosen, crate::proofs::SignatureReaders::signature_chosen, sshkey_base::proofs::Lengths::label_lengths))]
 impl Decode for Signature {
     type Error = Error;
 
@@ -92,7 +89,7 @@ impl Decode for Signature {
 }
 
 /// The signature by that algorithm whose bytes stand at the front.
-#[tactic(auto, using(sshkey_terms::proofs::Mapped::mapped, sshkey_terms::proofs::Lawful::checked_read))]
+#[tactic(auto, using(sshkey_terms::proofs::Records::mapped, sshkey_terms::proofs::Lawful::checked_read))]
 #[inline(always)]
 fn decode_under<R: Reader>(alloc: Global, reader: &mut R, algorithm: Algorithm) -> Result<Signature>
     ensures gives { Gives signature_of cause (signature_under (algorithm_of algorithm)).read
@@ -108,7 +105,7 @@ fn decode_under<R: Reader>(alloc: Global, reader: &mut R, algorithm: Algorithm) 
 }
 
 /// What stands after the name of that algorithm.
-#[tactic(auto, using(crate::proofs::SignatureParts::blob_asks, crate::proofs::SignatureParts::blob_stops))]
+#[tactic(auto, using(crate::proofs::SignatureForms::blob_asks, crate::proofs::SignatureForms::blob_stops))]
 fn decode_blob<R: Reader>(alloc: Global, reader: &mut R, algorithm: &Algorithm) -> Result<Bytes>
     ensures gives { DecodesWide (λ b. b) (signature_blob_at (algorithm_of algorithm.now))
         R.source reader.old result reader.new }
@@ -125,7 +122,7 @@ fn decode_blob<R: Reader>(alloc: Global, reader: &mut R, algorithm: &Algorithm) 
 }
 
 /// A string of bytes that are well-formed.
-#[tactic(auto, using(sshkey_base::proofs::Steps::steps, sshkey_terms::proofs::Stopping::handed, crate::proofs::TrailedBlobs::trailed_blobs))]
+#[tactic(auto, using(sshkey_base::proofs::Steps::steps, sshkey_terms::proofs::Stopping::handed, crate::proofs::SignatureReaders::trailed_blobs))]
 fn decode_string<R: Reader>(alloc: Global, reader: &mut R, algorithm: &Algorithm) -> Result<Bytes>
     ensures gives { Gives (λ b. b) cause
         (checked_at (string_from (algorithm_of algorithm.now)) string_at)
@@ -150,7 +147,7 @@ fn checked(algorithm: &Algorithm, bytes: Bytes) -> Result<Bytes>
 
 /// A string of bytes that are well-formed, and the five bytes after it. A source that lends its
 /// bytes is copied with room for the five from the start, so that they take no memory again.
-#[tactic(auto, using(sshkey_base::proofs::Steps::steps, sshkey_terms::proofs::Stopping::handed, crate::proofs::TrailedBlobs::trailed_blobs))]
+#[tactic(auto, using(sshkey_base::proofs::Steps::steps, sshkey_terms::proofs::Stopping::handed, crate::proofs::SignatureReaders::trailed_blobs))]
 fn decode_trailed<R: Reader>(alloc: Global, reader: &mut R, algorithm: &Algorithm) -> Result<Bytes>
     ensures gives { Gives (λ b. b) cause (trailed_at (string_from (algorithm_of algorithm.now)))
         (R.source reader.old) result (R.source reader.new) }
@@ -168,7 +165,7 @@ fn decode_trailed<R: Reader>(alloc: Global, reader: &mut R, algorithm: &Algorith
 }
 
 /// The bytes, where they stand in the string of a signature by the algorithm, and then the trailer.
-#[tactic(auto, using(crate::proofs::TrailedBlobs::joining))]
+#[tactic(auto, using(crate::proofs::SignatureReaders::joining))]
 fn joined(algorithm: &Algorithm, bytes: Bytes, trailer: &[u8]) -> Result<Bytes>
     ensures { Answers (λ b. b) cause
         (joined_from (string_from (algorithm_of algorithm.now)) trailer.now bytes) result }
@@ -218,7 +215,7 @@ fn blob_len(algorithm: &Algorithm, blob: &[u8]) -> encoding::Result<usize>
 }
 
 /// Writes what stands after the name of the algorithm.
-#[tactic(auto, using(sshkey_base::proofs::Writing::not_first, sshkey_base::proofs::Writing::plain_bytes, sshkey_base::proofs::PlainParts::encodes_later))]
+#[tactic(auto, using(sshkey_base::proofs::Writing::not_first, sshkey_base::proofs::Writing::plain_bytes, sshkey_base::proofs::WrittenLists::encodes_later))]
 fn encode_blob<W: Writer>(
     algorithm: &Algorithm,
     blob: &[u8],

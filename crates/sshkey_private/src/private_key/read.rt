@@ -2,12 +2,9 @@
 
 ghost use Rattle.std.specs.Prelude.{◌≡◌, ◌%◌, [], false, true, length, suc, Ok, IfOk};
 ghost use Rattle.sshkey_base.specs.Causes.{cause};
-ghost use Rattle.sshkey_base.specs.Formats.{Stops};
-ghost use Rattle.sshkey_base.specs.Needs.{Asks};
+ghost use Rattle.sshkey_base.specs.Formats.{Stops, StopsBy, StopsPast};
+ghost use Rattle.sshkey_base.specs.Reading.{Asks, Gives, GivesWhole, Later, all_of};
 ghost use Rattle.sshkey_model.specs.Needs.{NeedsString};
-ghost use Rattle.sshkey_base.specs.Reading.{Gives, GivesWhole};
-ghost use Rattle.sshkey_base.specs.Source.{Later, all_of};
-ghost use Rattle.sshkey_base.specs.Stops.{StopsBy, StopsPast};
 ghost use Rattle.sshkey_model.specs.Overruns.{OverrunsString};
 ghost use Rattle.sshkey_pairs.specs.Keypairs.{pair_of};
 ghost use Rattle.sshkey_keys.specs.Keys.{key_of};

@@ -1,7 +1,7 @@
 //! Verifying SSH signatures of messages.
 
 ghost use Rattle.std.specs.Prelude.{◌≡◌, ◌≢◌, ℕ, List, true, false, Err, OnOk};
-ghost use Rattle.sshkey_base.specs.Acceptance.{AcceptsExactly};
+ghost use Rattle.sshkey_base.specs.Judgements.{AcceptsExactly};
 ghost use Rattle.sshkey_base.specs.declared.error.Error.TheVariants as wide;
 ghost use Rattle.sshkey_keys.specs.Keys.{key_of};
 ghost use Rattle.sshkey_keys.specs.Signatures.{signature_of};
@@ -10,9 +10,8 @@ ghost use Rattle.sshkey_model.specs.Parts.{BoxesFit, flat};
 ghost use Rattle.sshkey_model.specs.SignedMessages.{IsVerified};
 ghost use Rattle.sshkey_model.specs.Verification.{IsAccepted};
 ghost use Rattle.sshkey_public.specs.PublicKeys.{data_of, public_of, JudgesSigned};
-ghost use Rattle.sshkey_sshsig.specs.Signing.{signed_parts};
-ghost use Rattle.sshkey_sshsig.specs.SshSignatureReaders.{SpellsSshSignature};
-ghost use Rattle.sshkey_sshsig.specs.SshSignatures.{ssh_signature_of, signer_of, given_of};
+ghost use Rattle.sshkey_sshsig.specs.SshSignatures.{signed_parts, ssh_signature_of, signer_of, given_of};
+ghost use Rattle.sshkey_sshsig.specs.SshSignatureFormats.{SpellsSshSignature};
 
 use super::PublicKey;
 use crate::line::is_same;

@@ -2,9 +2,8 @@
 
 ghost use Rattle.std.specs.Prelude.{◌≡◌, ◌≢◌, [], true, false, Err, IsErrAnd};
 ghost use Rattle.sshkey_base.specs.declared.error.Error.TheVariants as wide;
-ghost use Rattle.sshkey_keys.specs.Keys.{key_of};
-ghost use Rattle.sshkey_keys.specs.KeyKinds.{is_security_key};
-ghost use Rattle.sshkey_sshsig.specs.Signing.{MakesSigned, IsNoSigner, ChecksSigner, MaySign};
+ghost use Rattle.sshkey_keys.specs.Keys.{key_of, is_security_key};
+ghost use Rattle.sshkey_sshsig.specs.SshSignatures.{MakesSigned, IsNoSigner, ChecksSigner, MaySign};
 
 use super::SshSig;
 use super::signed_data::signed_bytes;

@@ -1,15 +1,13 @@
 //! What is signed in place of a message.
 
 ghost use Rattle.std.specs.Prelude.{◌≡◌, ◌+◌, ◌*◌, ◌^◌, ◌≢◌, [], Err, length};
-ghost use Rattle.sshkey_base.specs.Digests.{digest_len};
-ghost use Rattle.sshkey_base.specs.Names.{hash_of};
+ghost use Rattle.sshkey_base.specs.Names.{digest_len, hash_of};
 ghost use Rattle.sshkey_base.specs.declared.encoding.Error.TheVariants as encoding;
 ghost use Rattle.sshkey_base.specs.declared.error.Error.TheVariants as wide;
 ghost use Rattle.sshkey_keys.specs.Blobs.{MakesBlob};
 ghost use Rattle.sshkey_model.specs.SignedMessages.{signed_message};
 ghost use Rattle.sshkey_model.specs.SshSignatures.{signed_data};
-ghost use Rattle.sshkey_sshsig.specs.Signing.{digest_parts, signed_parts};
-ghost use Rattle.sshkey_sshsig.specs.SshSignatures.{ssh_signature_of};
+ghost use Rattle.sshkey_sshsig.specs.SshSignatures.{digest_parts, signed_parts, ssh_signature_of};
 
 use super::SshSig;
 use super::wire::MAGIC;

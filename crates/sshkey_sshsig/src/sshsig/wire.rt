@@ -1,18 +1,15 @@
 //! How SSH signatures are read and written.
 
 ghost use Rattle.std.specs.Prelude.{◌<◌, ◌+◌, ◌*◌, ◌^◌, ℕ, List};
-ghost use Rattle.sshkey_base.specs.Reading.{AcceptsWhole, GivesWhole};
-ghost use Rattle.sshkey_base.specs.Answers.{AnswersAlways};
+ghost use Rattle.sshkey_base.specs.Reading.{AcceptsWhole, GivesWhole, Asks, all_of};
+ghost use Rattle.sshkey_base.specs.Judgements.{AnswersAlways};
 ghost use Rattle.sshkey_base.specs.Causes.{cause};
-ghost use Rattle.sshkey_base.specs.Needs.{Asks};
 ghost use Rattle.sshkey_base.specs.Sink.{Encodes};
-ghost use Rattle.sshkey_base.specs.Source.{all_of};
 ghost use Rattle.sshkey_keys.specs.Blobs.{MakesBlob};
 ghost use Rattle.sshkey_model.specs.Reading.{literal_at, literal_from, whole};
 ghost use Rattle.sshkey_model.specs.SshSignatures.{SshSignature, IsSshSignature, normal_ssh_signature, signature_magic};
 ghost use Rattle.sshkey_sshsig.specs.SshSignatures.{ssh_signature_of, statement, magic_of, version_of, namespace_of};
-ghost use Rattle.sshkey_sshsig.specs.SshSignatureFormats.{magic_format, version_from, version_format, namespace_from, namespace_format, ssh_signature_format};
-ghost use Rattle.sshkey_sshsig.specs.SshSignatureReaders.{ssh_signature_value_at, SpellsSshSignature};
+ghost use Rattle.sshkey_sshsig.specs.SshSignatureFormats.{magic_format, version_from, version_format, namespace_from, namespace_format, ssh_signature_format, ssh_signature_value_at, SpellsSshSignature};
 
 use super::SshSig;
 use super::part::{Magic, Namespace, Version};
@@ -65,7 +62,7 @@ fn check_magic(bytes: [u8; 6]) -> Result<Magic>
 }
 
 /// The six bytes `SSHSIG`.
-#[tactic(auto, using(crate::proofs::Lawful::magic_lawful, sshkey_base::proofs::Steps::steps, sshkey_base::proofs::Stopping::stopping), unfolding(sshkey_model::specs::Reading::literal_at))]
+#[tactic(auto, using(crate::proofs::SshSignatures::magic_lawful, sshkey_base::proofs::Steps::steps, sshkey_base::proofs::Stopping::stopping), unfolding(sshkey_model::specs::Reading::literal_at))]
 impl Decode for Magic {
     type Error = Error;
 
@@ -94,7 +91,7 @@ fn check_version(number: u32) -> Result<Version>
 }
 
 /// A version in four bytes.
-#[tactic(auto, using(crate::proofs::Lawful::version_lawful, sshkey_base::proofs::Steps::steps, sshkey_base::proofs::Stopping::stopping, sshkey_terms::proofs::Lawful::checked_read))]
+#[tactic(auto, using(crate::proofs::SshSignatures::version_lawful, sshkey_base::proofs::Steps::steps, sshkey_base::proofs::Stopping::stopping, sshkey_terms::proofs::Lawful::checked_read))]
 impl Decode for Version {
     type Error = Error;
 
@@ -123,7 +120,7 @@ fn check_namespace(text: Text) -> Result<Namespace>
 }
 
 /// A text that is not empty.
-#[tactic(auto, using(crate::proofs::Lawful::namespace_lawful, sshkey_base::proofs::Steps::steps, sshkey_base::proofs::Stopping::stopping, sshkey_base::proofs::Lengths::text_lengths, sshkey_terms::proofs::Lawful::checked_read))]
+#[tactic(auto, using(crate::proofs::SshSignatures::namespace_lawful, sshkey_base::proofs::Steps::steps, sshkey_base::proofs::Stopping::stopping, sshkey_base::proofs::Lengths::text_lengths, sshkey_terms::proofs::Lawful::checked_read))]
 impl Decode for Namespace {
     type Error = Error;
 
@@ -153,7 +150,7 @@ type Statement = Then<Namespace, Then<Wide<Bytes>, Then<Wide<HashAlg>, LengthPre
 /// Fails with `FormatEncoding` for other bytes than `SSHSIG`, with `Version` and its number for a
 /// version above 1, with `Namespace` for an empty namespace, with `Label` for the name of no hash,
 /// and as `KeyData` and `Signature` do.
-#[tactic(auto, using(crate::proofs::Lawful::ssh_signature_lawful, sshkey_terms::proofs::Mapped::mapped, sshkey_terms::proofs::Lawful::checked_read))]
+#[tactic(auto, using(crate::proofs::SshSignatures::ssh_signature_lawful, sshkey_terms::proofs::Records::mapped, sshkey_terms::proofs::Lawful::checked_read))]
 impl Decode for SshSig {
     type Error = Error;
 

@@ -1,11 +1,8 @@
 //! How counted lists are read.
 
 ghost use Rattle.std.specs.Prelude.{◌≡◌, ◌++◌, ◌∷◌, [], List, map, IfErr, OnOk};
-ghost use Rattle.sshkey_base.specs.Formats.{Stops};
-ghost use Rattle.sshkey_base.specs.Needs.{Asks};
-ghost use Rattle.sshkey_base.specs.Reading.{Gives};
-ghost use Rattle.sshkey_base.specs.Source.{Later};
-ghost use Rattle.sshkey_base.specs.Stops.{StopsBy};
+ghost use Rattle.sshkey_base.specs.Formats.{Stops, StopsBy};
+ghost use Rattle.sshkey_base.specs.Reading.{Asks, Gives, Later};
 ghost use Rattle.sshkey_model.specs.Counted.{NeedsValues, OverrunsValues, counted_format, times_at, values_format};
 
 use sshkey_base::encoding::{self, Error};

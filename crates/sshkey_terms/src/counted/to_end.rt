@@ -2,10 +2,8 @@
 
 ghost use Rattle.std.specs.Prelude.{List, map};
 ghost use Rattle.sshkey_model.specs.Reading.{never_at};
-ghost use Rattle.sshkey_base.specs.Needs.{Asks};
-ghost use Rattle.sshkey_base.specs.Reading.{Gives};
-ghost use Rattle.sshkey_base.specs.Source.{Later};
-ghost use Rattle.sshkey_base.specs.Stops.{StopsBy};
+ghost use Rattle.sshkey_base.specs.Reading.{Asks, Gives, Later};
+ghost use Rattle.sshkey_base.specs.Formats.{StopsBy};
 ghost use Rattle.sshkey_model.specs.ToEnd.{HasBytes, NeedsEach, OverrunsEach, each_at};
 
 use crate::counted::read::add;

@@ -1,11 +1,10 @@
 //! Parts of a request, where they lie.
 
 ghost use Rattle.std.specs.Prelude.{ℕ, List};
-ghost use Rattle.sshkey_base.specs.Answers.{AnswersAlways};
+ghost use Rattle.sshkey_base.specs.Judgements.{AnswersAlways};
 ghost use Rattle.sshkey_base.specs.Causes.{cause};
 ghost use Rattle.sshkey_model.specs.Formats.{IsFormat};
-ghost use Rattle.sshkey_base.specs.Reading.{GivesAlways};
-ghost use Rattle.sshkey_base.specs.Source.{Later, all_of};
+ghost use Rattle.sshkey_base.specs.Reading.{GivesAlways, Later, all_of};
 ghost use Rattle.sshkey_model.specs.Reading.{literal_from};
 ghost use Rattle.sshkey_model.specs.Terms.{literal_format};
 ghost use Rattle.sshkey_userauth.specs.RequestFormats as formats;
@@ -34,7 +33,7 @@ pub(super) const HOSTBOUND: &[u8] = b"publickey-hostbound-v00@openssh.com";
 pub(super) struct MessageNumber;
 
 /// Fails with `FormatEncoding` for another byte.
-#[tactic(auto, using(sshkey_terms::proofs::Walking::walking, crate::proofs::Lawful::lawful), unfolding(sshkey_model::specs::Reading::literal_at))]
+#[tactic(auto, using(sshkey_terms::proofs::Walks::walking, crate::proofs::Lawful::lawful), unfolding(sshkey_model::specs::Reading::literal_at))]
 impl<'a> ReadFrom<&'a [u8]> for MessageNumber {
     type Error = Error;
 
@@ -70,7 +69,7 @@ fn check_number(bytes: &[u8]) -> Result<MessageNumber>
 pub(super) struct HasSignature;
 
 /// Fails with `FormatEncoding` for another byte.
-#[tactic(auto, using(sshkey_terms::proofs::Walking::walking, crate::proofs::Lawful::lawful), unfolding(sshkey_model::specs::Reading::literal_at))]
+#[tactic(auto, using(sshkey_terms::proofs::Walks::walking, crate::proofs::Lawful::lawful), unfolding(sshkey_model::specs::Reading::literal_at))]
 impl<'a> ReadFrom<&'a [u8]> for HasSignature {
     type Error = Error;
 
@@ -111,7 +110,7 @@ pub(super) enum Method {
 }
 
 /// Fails with `Label` for the name of another method.
-#[tactic(auto, using(sshkey_terms::proofs::Walking::walking, crate::proofs::Lawful::lawful))]
+#[tactic(auto, using(sshkey_terms::proofs::Walks::walking, crate::proofs::Lawful::lawful))]
 impl<'a> ReadFrom<&'a [u8]> for Method {
     type Error = Error;
 
@@ -180,7 +179,7 @@ type Plain<'a> = Then<HasSignature, Wide<Then<&'a [u8], &'a [u8]>>>;
 type Bound<'a> = Then<HasSignature, Wide<Then<&'a [u8], Then<&'a [u8], &'a [u8]>>>>;
 
 /// What follows the name of that method.
-#[tactic(auto, using(sshkey_terms::proofs::Walking::walking))]
+#[tactic(auto, using(sshkey_terms::proofs::Walks::walking))]
 fn credential_from<'a>(method: Method, bytes: &mut &'a [u8]) -> Result<Credential<'a>>
     ensures gives { GivesAlways credential_of cause (credential_format (method_of method)).read
         (all_of bytes.old.now) result (all_of bytes.new.now) }

@@ -1,7 +1,7 @@
 //! How requests are read and written.
 
 ghost use Rattle.std.specs.Prelude.{◌≡◌, ◌↔◌, ◌≤◌, ◌+◌, ◌*◌, ◌^◌, IfOk, IsTrue, option_map};
-ghost use Rattle.sshkey_base.specs.Answers.{AnswersAlways};
+ghost use Rattle.sshkey_base.specs.Judgements.{AnswersAlways};
 ghost use Rattle.sshkey_base.specs.Causes.{cause};
 ghost use Rattle.sshkey_model.specs.Formats.{IsFormat};
 ghost use Rattle.sshkey_base.specs.Sink.{Encodes, Measures};
@@ -102,7 +102,7 @@ type Opening<'a> = Then<Wide<&'a [u8]>, Then<MessageNumber, Wide<Then<&'a [u8], 
 ///
 /// Fails with `Length` for a stated length that passes the bytes, with `FormatEncoding` for another
 /// message and for one without a signature, and with `Label` for another method.
-#[tactic(auto, using(sshkey_terms::proofs::Walking::walking, sshkey_terms::proofs::Mapped::mapped, sshkey_terms::proofs::Lawful::checked_read, crate::proofs::Lawful::lawful))]
+#[tactic(auto, using(sshkey_terms::proofs::Walks::walking, sshkey_terms::proofs::Records::mapped, sshkey_terms::proofs::Lawful::checked_read, crate::proofs::Lawful::lawful))]
 impl<'a> ReadFrom<&'a [u8]> for UserauthRequest<'a> {
     type Error = Error;
 

@@ -6,8 +6,7 @@ use Rattle.login_policy.specs.Refusals.{RefusesLogin}
 use Rattle.openssh_limits.specs.Limits.{openssh_accepts_key}
 use Rattle.sshkey_cert.specs.Certificates.{certificate_of}
 use Rattle.sshkey_cert.specs.Validity.{certificate_question, fingerprints_of}
-use Rattle.sshkey_keys.specs.Fingerprints.{IsFingerprint}
-use Rattle.sshkey_keys.specs.Keys.{key_of}
+use Rattle.sshkey_keys.specs.Keys.{IsFingerprint, key_of}
 use Rattle.sshkey_model.specs.Keys.{Key}
 use Rattle.sshkey_model.specs.Names.{Sha256}
 use Rattle.sshkey_model.specs.Verification.{Question}

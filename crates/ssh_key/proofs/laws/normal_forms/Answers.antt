@@ -12,7 +12,7 @@ use Rattle.sshkey_model.proofs.Trees.{determined, read_back}
 use Rattle.sshkey_model.specs.Labels.{label_at}
 use Rattle.sshkey_ciphers.proofs.Names.{cipher_checks, kdf_algorithm_checks}
 use Rattle.sshkey_ciphers.proofs.Lawful.{kdf_grammar, kdf_normal}
-use Rattle.sshkey_sshsig.proofs.SshSignatureTrees.{ssh_signature_grammar, ssh_signature_normal}
+use Rattle.sshkey_sshsig.proofs.SshSignatures.{ssh_signature_grammar, ssh_signature_normal}
 use Rattle.ssh_key.proofs.NormalForms.{normal_forms, opened, plain_forms}
 use Rattle.ssh_key.proofs.laws.normal_forms.Goals as goal
 

@@ -1,7 +1,7 @@
 use Rattle.std.proofs.Common.{Err}
 use Rattle.std.proofs.lemmas.Result.{err_from_is_err_and}
 use Rattle.sshkey_base.specs.Causes.{encoding_cause}
-use Rattle.sshkey_base.specs.ShortBytes.{short_of}
+use Rattle.sshkey_base.specs.Values.{short_of}
 use Rattle.sshkey_base.proofs.Labels.{looked_up_gives}
 use Rattle.sshkey_base.proofs.NameStrings.{name_refused, name_reads, long_reads, long_refused, named_asked, named_asks, named_stops, looked_up_names, long_stopped}
 use Rattle.sshkey_base.proofs.Steps.{refuses_sound, refuses_first}

@@ -5,10 +5,9 @@ use Rattle.std.specs.Prelude.{string_bytes}
 use Rattle.sshkey_model.specs.Parts.{bytes}
 use Rattle.sshkey_model.specs.Texts.{text_at}
 use Rattle.sshkey_model.proofs.TextReaders.{text_reads, box_shows}
-use Rattle.sshkey_base.specs.Source.{announced_len}
-use Rattle.sshkey_base.specs.TextLists.{texts_of}
-use Rattle.sshkey_base.proofs.FirstValues.{first_asks, first_stopped, still_begun}
-use Rattle.sshkey_base.proofs.ReadLists.{collects_more, collects_refused, collects_end, leaves_less, overruns_more}
+use Rattle.sshkey_base.specs.Reading.{announced_len}
+use Rattle.sshkey_base.specs.Values.{texts_of}
+use Rattle.sshkey_base.proofs.ReadLists.{first_asks, first_stopped, still_begun, collects_more, collects_refused, collects_end, leaves_less, overruns_more}
 use Rattle.sshkey_base.proofs.Lengths.{text_lengths}
 use Rattle.sshkey_model.specs.Needs.{NeedsString}
 use Rattle.sshkey_model.specs.Overruns.{OverrunsString}

@@ -1,10 +1,9 @@
 use Rattle.std.proofs.Common.{ℕ, List, Option, map}
 use Rattle.std.specs.Prelude.{string_bytes}
 use Rattle.sshkey_model.specs.Texts.{text_at}
-use Rattle.sshkey_base.specs.Source.{Later, announced_len}
+use Rattle.sshkey_base.specs.Reading.{Later, announced_len}
 use Rattle.sshkey_model.specs.Overruns.{OverrunsString}
-use Rattle.sshkey_base.proofs.FirstValues.{Begun}
-use Rattle.sshkey_base.proofs.ReadLists.{Collects, StillOverruns}
+use Rattle.sshkey_base.proofs.ReadLists.{Begun, Collects, StillOverruns}
 use Rattle.sshkey_base.proofs.list.texts_from.Given as goal
 
 abbrev pub invariant-reads : goal.invariant-reads

@@ -1,7 +1,7 @@
 use Rattle.std.proofs.Common.{◌≡◌, ◌⊎◌, ℕ, ◌≤◌, ◌+◌, ◌-◌, ◌*◌, ◌/◌, min, take, drop, length, arith, inl, inr, refl, ap, ◌∙◌}
 use Rattle.std.proofs.lemmas.Bool.{cases_lt}
 use Rattle.std.proofs.lemmas.List.{length-drop, length-take-le, take_at}
-use Rattle.sshkey_base64.proofs.Spreading.{spreads_none, spreads_more, written_from, size_of}
+use Rattle.sshkey_base64.proofs.Encoding.{spreads_none, spreads_more, written_from, size_of}
 use Rattle.sshkey_base64.proofs.in_place.spread.Goals as goal
 
 pub pieces-init : goal.pieces-init

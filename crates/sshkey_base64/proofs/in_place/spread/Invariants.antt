@@ -1,5 +1,5 @@
 use Rattle.std.proofs.Common.{◌-◌}
-use Rattle.sshkey_base64.proofs.Spreading.{Spreads}
+use Rattle.sshkey_base64.proofs.Encoding.{Spreads}
 use Rattle.sshkey_base64.proofs.in_place.spread.Given as goal
 
 abbrev pub invariant-pieces : goal.invariant-pieces

@@ -2,7 +2,7 @@ use Rattle.std.proofs.Common.{ℕ, ◌-◌, length, List, arith, ap}
 use Rattle.base64.specs.Engines.{standard}
 use Rattle.base64.specs.GeneralPurpose.{encode_of}
 use Rattle.sshkey_model.specs.Parts.{flat}
-use Rattle.sshkey_base64.proofs.Pieces.{pieces_none, pieces_more, pieces_refused, pieces_all, refused_as}
+use Rattle.sshkey_base64.proofs.Encoding.{pieces_none, pieces_more, pieces_refused, pieces_all, refused_as}
 use Rattle.sshkey_base64.proofs.Windows.{window_part, never_refused, whole_or_last}
 use Rattle.sshkey_base64.proofs.word.write_word.Goals as goal
 

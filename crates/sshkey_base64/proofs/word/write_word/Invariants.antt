@@ -1,6 +1,6 @@
 use Rattle.std.proofs.Common.{◌-◌}
 use Rattle.sshkey_model.specs.Parts.{flat}
-use Rattle.sshkey_base64.proofs.Pieces.{Pieces}
+use Rattle.sshkey_base64.proofs.Encoding.{Pieces}
 use Rattle.sshkey_base64.proofs.word.write_word.Given as goal
 
 abbrev pub invariant-windows : goal.invariant-windows

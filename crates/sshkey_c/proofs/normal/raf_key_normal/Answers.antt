@@ -1,5 +1,5 @@
 use Rattle.std.proofs.Common.{inl, refl, subst, sym}
-use Rattle.sshkey_base.specs.Acceptance.{SpellsSome}
+use Rattle.sshkey_base.specs.Judgements.{SpellsSome}
 use Rattle.sshkey_base.specs.Causes.{cause}
 use Rattle.sshkey_model.specs.Keys.{SpellsKey, key_data_at}
 use Rattle.sshkey_keys_ref.specs.Keys.{key_bytes}

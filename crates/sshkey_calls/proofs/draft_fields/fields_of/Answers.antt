@@ -1,5 +1,5 @@
 use Rattle.std.proofs.Common.{ℕ, ◌<◌, ◌∙◌, ◌∷◌, [], arith, inr, subst, sym}
-use Rattle.sshkey_base.specs.Acceptance.{SpellsSome}
+use Rattle.sshkey_base.specs.Judgements.{SpellsSome}
 use Rattle.sshkey_model.specs.Keys.{SpellsKey}
 use Rattle.sshkey_cert_values.specs.CertificateFields.{to_be_signed_of}
 use Rattle.sshkey_calls.specs.Drafts.{FindsOr, TellsFields, draft_fault, parts_fault}

@@ -3,8 +3,8 @@ use Rattle.std.proofs.lemmas.Result.{err_from_is_err_and}
 use Rattle.sshkey_base.proofs.Accepted.{spelled_whole}
 use Rattle.sshkey_base.specs.Causes.{cause, encoding_cause, same_cause}
 use Rattle.sshkey_base.specs.Reading.{IsRefused}
-use Rattle.sshkey_base.specs.TextLists.{texts_of}
-use Rattle.sshkey_base.proofs.Leaves.{texts_grammar}
+use Rattle.sshkey_base.specs.Values.{texts_of}
+use Rattle.sshkey_base.proofs.Lawful.{texts_grammar}
 use Rattle.sshkey_model.specs.Parts.{flat}
 use Rattle.sshkey_model.specs.Reading.{whole}
 use Rattle.sshkey_model.specs.Texts.{string, texts_at, SpellsTexts}

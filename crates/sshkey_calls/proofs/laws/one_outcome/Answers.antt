@@ -7,7 +7,7 @@ use Rattle.sshkey_base.proofs.Accepted.{spelled_whole}
 use Rattle.sshkey_cert.proofs.Certificates.{certificate_grammar}
 use Rattle.sshkey_keys.proofs.KeyReaders.{key_grammar}
 use Rattle.sshkey_keys.proofs.SignatureReaders.{signature_grammar}
-use Rattle.sshkey_sshsig.proofs.SshSignatureTrees.{ssh_signature_grammar}
+use Rattle.sshkey_sshsig.proofs.SshSignatures.{ssh_signature_grammar}
 use Rattle.sshkey_calls.specs.Rooms.{HasOneOutcome}
 use Rattle.sshkey_calls.proofs.laws.one_outcome.Goals as goal
 

@@ -1,6 +1,6 @@
 use Rattle.std.proofs.Common.{refl}
 use Rattle.sshkey_model.proofs.CertificateNameReaders.{certified_checks}
-use Rattle.sshkey_base.proofs.CertifiedNames.{certified_ascii, certified_refusals}
+use Rattle.sshkey_base.proofs.OtherNames.{certified_ascii, certified_refusals}
 use Rattle.sshkey_base.proofs.Labels.{not_named}
 use Rattle.sshkey_cert_ref.proofs.certificate_name.name_in.Goals as goal
 

@@ -7,7 +7,7 @@ use Rattle.std.specs.String.{string_bytes}
 use Rattle.std.proofs.lemmas.Bool.Decides.{Decides-and, Decides-like}
 use Rattle.std.proofs.lemmas.Slice.Eq.{bytes_eq-Decides, slice_eq-Decides}
 use Rattle.sshkey_model.specs.Certificates.{SignedFields}
-use Rattle.sshkey_base.specs.TextLists.{texts_of}
+use Rattle.sshkey_base.specs.Values.{texts_of}
 use Rattle.sshkey_base.specs.Comparisons.{bytes_cmp}
 use Rattle.sshkey_cert_values.specs.CertificateFields.{to_be_signed_of}
 use Rattle.sshkey_base.proofs.Comparisons.{both, after, last_of_all}

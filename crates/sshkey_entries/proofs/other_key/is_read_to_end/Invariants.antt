@@ -1,5 +1,5 @@
 use Rattle.std.proofs.Common.{List, ℕ}
-use Rattle.sshkey_base.specs.Source.{Advances, announced_len}
+use Rattle.sshkey_base.specs.Reading.{Advances, announced_len}
 use Rattle.sshkey_entries.proofs.other_key.is_read_to_end.Given as goal
 
 -- what was read, and what is left

@@ -1,5 +1,5 @@
 use Rattle.std.proofs.Common.{◌++◌, List, ℕ, sym, ap, subst, ◌∙◌}
-use Rattle.sshkey_base.specs.Source.{Advances}
+use Rattle.sshkey_base.specs.Reading.{Advances}
 use Rattle.sshkey_entries.proofs.OtherKeys.{in_string, number_first, then_name}
 use Rattle.sshkey_entries.proofs.other_key.takes_name.Goals as goal
 

@@ -1,7 +1,6 @@
 use Rattle.std.proofs.Common.{◌≡◌, ℕ, List, bytes_eq, subst, sym, ◌∙◌}
 use Rattle.std.specs.List.{list_any}
-use Rattle.sshkey_keys.specs.Fingerprints.{IsFingerprint}
-use Rattle.sshkey_keys.specs.Keys.{key_of}
+use Rattle.sshkey_keys.specs.Keys.{IsFingerprint, key_of}
 use Rattle.sshkey_keys.specs.declared.key_data.KeyData.{KeyData}
 use Rattle.sshkey_model.specs.Names.{Sha256}
 use Rattle.sshkey_calls.specs.Validations.{authorities_of}

@@ -1,9 +1,9 @@
 use Rattle.std.proofs.Common.{ℕ, List, subst}
-use Rattle.ssh_key.specs.base.Acceptance.{AcceptsExactly}
+use Rattle.ssh_key.specs.base.Judgements.{AcceptsExactly}
 use Rattle.ssh_key.specs.model.Keys.{IsKey}
 use Rattle.ssh_key.specs.model.SignedMessages.{IsVerified}
 use Rattle.ssh_key.specs.public.PublicKeys.{public_of}
-use Rattle.ssh_key.specs.sshsig.SshSignatureReaders.{SpellsSshSignature}
+use Rattle.ssh_key.specs.sshsig.SshSignatureFormats.{SpellsSshSignature}
 use Rattle.ssh_key.specs.sshsig.SshSignatures.{ssh_signature_of}
 use Rattle.ssh_key.specs.types.PublicKey.{PublicKey}
 use Rattle.sshkey_examples.proofs.Signers.{answered, only_memory}

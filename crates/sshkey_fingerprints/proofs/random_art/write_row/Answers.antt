@@ -1,7 +1,7 @@
 use Rattle.std.proofs.Common.{ap, refl, arith}
 use Rattle.std.specs.Char.{encode_utf8}
 use Rattle.std.proofs.Output.{has_written_styled_append, has_written_styled_of_eq}
-use Rattle.sshkey_fingerprints.proofs.Rows.{one_symbol, whole_row}
+use Rattle.sshkey_fingerprints.proofs.Pictures.{one_symbol, whole_row}
 use Rattle.sshkey_fingerprints.proofs.random_art.write_row.Goals as goal
 
 pub loop-shade-preserved : goal.loop-shade-preserved

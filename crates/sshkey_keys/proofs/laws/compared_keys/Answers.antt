@@ -6,7 +6,7 @@ use Rattle.sshkey_model.specs.Names.{Algorithm, Curve, algorithm_name}
 use Rattle.sshkey_model.specs.Laws.{DetermineValues}
 use Rattle.sshkey_base.specs.Names.{algorithm_of}
 use Rattle.sshkey_keys.specs.Keys.{key_of}
-use Rattle.sshkey_keys.proofs.OwnAlgorithms.{same_name}
+use Rattle.sshkey_keys.proofs.OpaqueKeys.{same_name}
 use Rattle.sshkey_keys.specs.declared.key_data.KeyData.TheVariants as kinds
 use Rattle.sshkey_keys.proofs.laws.compared_keys.Goals as goal
 

@@ -1,5 +1,5 @@
 use Rattle.std.proofs.Common.{◌∙◌, rules}
-use Rattle.sshkey_keys.proofs.WrittenParts.{flagged_parts}
+use Rattle.sshkey_keys.proofs.SignatureForms.{flagged_parts}
 use Rattle.sshkey_keys.proofs.security_key.application_and_trailer.Goals as goal
 
 pub returns : goal.returns

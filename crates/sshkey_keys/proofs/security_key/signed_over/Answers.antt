@@ -1,5 +1,5 @@
 use Rattle.std.proofs.Common.{◌∙◌, rules}
-use Rattle.sshkey_keys.proofs.WrittenParts.{signed_parts}
+use Rattle.sshkey_keys.proofs.SignatureForms.{signed_parts}
 use Rattle.sshkey_keys.proofs.security_key.signed_over.Goals as goal
 
 pub returns : goal.returns

@@ -1,5 +1,5 @@
 use Rattle.std.proofs.Common.{refl}
-use Rattle.sshkey_kinds.specs.EcdsaPublicKey.{ecdsa_key_of}
+use Rattle.sshkey_kinds.specs.Kinds.{ecdsa_key_of}
 use Rattle.sshkey_keys_ref.proofs.body.after_ecdsa.Goals as goal
 
 pub returns : goal.returns

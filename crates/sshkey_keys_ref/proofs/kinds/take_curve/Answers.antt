@@ -3,7 +3,7 @@ use Rattle.sshkey_model.specs.Labels.{label_at}
 use Rattle.sshkey_base.specs.Names.{curve_of}
 use Rattle.sshkey_model.specs.Names.{curve_from}
 use Rattle.sshkey_model.specs.Reading.{string_at}
-use Rattle.sshkey_base.proofs.Judging.{judged_always}
+use Rattle.sshkey_base.proofs.Steps.{judged_always}
 use Rattle.sshkey_keys_ref.proofs.kinds.take_curve.Goals as goal
 
 pub returns-clause-gives : goal.returns-clause-gives

@@ -3,7 +3,7 @@ use Rattle.sshkey_model.specs.Labels.{label_at}
 use Rattle.sshkey_model.specs.Names.{algorithm_from}
 use Rattle.sshkey_model.specs.Reading.{string_at}
 use Rattle.sshkey_keys_ref.specs.KeyBytes.{named_of}
-use Rattle.sshkey_base.proofs.Judging.{judged_always}
+use Rattle.sshkey_base.proofs.Steps.{judged_always}
 use Rattle.sshkey_keys_ref.proofs.name_ref.take_name.Goals as goal
 
 pub returns : goal.returns

@@ -2,7 +2,7 @@ use Rattle.std.proofs.Common.{◌≡◌, ap}
 use Rattle.std.proofs.lemmas.Bool.Decides.{Decides-and, Decides-like}
 use Rattle.std.proofs.lemmas.Slice.Eq.{bytes_eq-Decides}
 use Rattle.sshkey_model.specs.Keys.{Dsa, DsaKey}
-use Rattle.sshkey_base.specs.Mpint.{mpint_of}
+use Rattle.sshkey_base.specs.Values.{mpint_of}
 use Rattle.sshkey_base.proofs.Comparisons.{last_of_all}
 use Rattle.sshkey_kinds.specs.Kinds.{dsa_of}
 use Rattle.sshkey_kinds.specs.declared.dsa.DsaPublicKey.{DsaPublicKey}

@@ -1,9 +1,9 @@
 use Rattle.std.proofs.Common.{Ok, Err}
 use Rattle.std.proofs.lemmas.Result.{err_from_is_err_and}
 use Rattle.sshkey_base.specs.Causes.{same_cause}
-use Rattle.sshkey_base.specs.ShortBytes.{short_of}
-use Rattle.sshkey_base.specs.Source.{after}
-use Rattle.sshkey_kinds.proofs.PointStrings.{judged_short, refused_short}
+use Rattle.sshkey_base.specs.Values.{short_of}
+use Rattle.sshkey_base.specs.Reading.{after}
+use Rattle.sshkey_kinds.proofs.Points.{judged_short, refused_short}
 use Rattle.sshkey_kinds.proofs.point_string.point_from.Goals as goal
 
 pub returns-in_err-point-clause-gives : goal.returns-in_err-point-clause-gives

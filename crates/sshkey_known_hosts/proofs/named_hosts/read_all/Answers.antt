@@ -1,5 +1,5 @@
 use Rattle.std.proofs.Common.{rules, ◌≡◌, ◌<◌, length, arith}
-use Rattle.sshkey_base.specs.Source.{announced_len}
+use Rattle.sshkey_base.specs.Reading.{announced_len}
 use Rattle.sshkey_known_hosts.proofs.Wholes.{ended, more, refused}
 use Rattle.sshkey_known_hosts.proofs.named_hosts.read_all.Goals as goal
 

@@ -1,4 +1,4 @@
-use Rattle.sshkey_base.specs.Source.{announced_len}
+use Rattle.sshkey_base.specs.Reading.{announced_len}
 use Rattle.sshkey_known_hosts.proofs.Wholes.{ReadSoFar}
 use Rattle.sshkey_known_hosts.proofs.named_hosts.read_all.Given as goal
 

@@ -3,7 +3,7 @@ use Rattle.std.proofs.lemmas.Bool.Decides.{Decides-and, Decides-like}
 use Rattle.std.proofs.lemmas.Slice.Eq.{bytes_eq-Decides}
 use Rattle.sshkey_model.specs.Keys.{DsaKey}
 use Rattle.sshkey_model.specs.KeyPairs.{DsaPair}
-use Rattle.sshkey_base.specs.Mpint.{mpint_of}
+use Rattle.sshkey_base.specs.Values.{mpint_of}
 use Rattle.sshkey_pair_kinds.specs.Pairs.{dsa_pair_of, dsa_private_of}
 use Rattle.sshkey_pair_kinds.specs.declared.dsa.DsaKeypair.{DsaKeypair}
 use Rattle.sshkey_kinds.specs.declared.dsa.DsaPublicKey.{DsaPublicKey}

@@ -3,7 +3,7 @@ use Rattle.std.proofs.lemmas.Bool.Decides.{Decides-and, Decides-like}
 use Rattle.std.proofs.lemmas.Slice.Eq.{bytes_eq-Decides}
 use Rattle.sshkey_model.specs.Keys.{RsaKey}
 use Rattle.sshkey_model.specs.KeyPairs.{RsaPair, RsaPrivate}
-use Rattle.sshkey_base.specs.Mpint.{mpint_of}
+use Rattle.sshkey_base.specs.Values.{mpint_of}
 use Rattle.sshkey_pair_kinds.specs.Pairs.{rsa_pair_of, rsa_private_of}
 use Rattle.sshkey_pair_kinds.specs.declared.rsa.RsaKeypair.{RsaKeypair}
 use Rattle.sshkey_kinds.specs.declared.rsa.RsaPublicKey.{RsaPublicKey}

@@ -2,7 +2,7 @@ use Rattle.std.proofs.Common.{◌≡◌, ap}
 use Rattle.std.proofs.lemmas.Bool.Decides.{Decides-and, Decides-like}
 use Rattle.std.proofs.lemmas.Slice.Eq.{bytes_eq-Decides}
 use Rattle.sshkey_model.specs.KeyPairs.{RsaPrivate}
-use Rattle.sshkey_base.specs.Mpint.{mpint_of}
+use Rattle.sshkey_base.specs.Values.{mpint_of}
 use Rattle.sshkey_pair_kinds.specs.Pairs.{rsa_private_of}
 use Rattle.sshkey_pair_kinds.specs.declared.rsa.RsaPrivateKey.{RsaPrivateKey}
 use Rattle.sshkey_pair_kinds.proofs.laws.equal_rsa_private_keys.Goals as goal

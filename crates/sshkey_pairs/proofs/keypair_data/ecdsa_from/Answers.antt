@@ -6,7 +6,7 @@ use Rattle.sshkey_base.specs.Names.{curve_of}
 use Rattle.sshkey_model.specs.Needs.{NoNeed}
 use Rattle.sshkey_base.proofs.Stopping.{checked_stopped}
 use Rattle.sshkey_terms.proofs.Lawful.{checked_read}
-use Rattle.sshkey_terms.proofs.Tested.{tested_stopped}
+use Rattle.sshkey_terms.proofs.Records.{tested_stopped}
 use Rattle.sshkey_pair_kinds.specs.Pairs.{ecdsa_pair_of}
 use Rattle.sshkey_pair_kinds.proofs.Lawful.{any_ecdsa_pair_lawful}
 use Rattle.sshkey_pairs.proofs.keypair_data.ecdsa_from.Goals as goal

@@ -2,7 +2,7 @@ use Rattle.std.proofs.Common.{refl}
 use Rattle.std.proofs.lemmas.Result.{err_from_is_err_and}
 use Rattle.sshkey_model.specs.Names.{algorithm_name}
 use Rattle.sshkey_base.specs.Names.{algorithm_of}
-use Rattle.sshkey_terms.proofs.Mapped.{mapped_reads, mapped_refused}
+use Rattle.sshkey_terms.proofs.Records.{mapped_reads, mapped_refused}
 use Rattle.sshkey_terms.proofs.Stopping.{mapped_stopped}
 use Rattle.sshkey_pairs.proofs.Keypairs.{some_opaque_parts_read}
 use Rattle.sshkey_pairs.proofs.keypair_data.opaque_from.Goals as goal

@@ -7,7 +7,7 @@ use Rattle.sshkey_model.specs.Leaves.{number32_format}
 use Rattle.sshkey_model.specs.Needs.{NoNeed}
 use Rattle.sshkey_base.proofs.Stopping.{checked_stopped, judged_stops}
 use Rattle.sshkey_model.specs.Terms.{◌then◌}
-use Rattle.sshkey_terms.proofs.Needless.{needless_stops}
+use Rattle.sshkey_terms.proofs.Walks.{needless_stops}
 use Rattle.sshkey_terms.proofs.Stopping.{widened_stops}
 use Rattle.sshkey_private.specs.PrivateParts.{one_checkint, checkint_at}
 use Rattle.sshkey_private.proofs.Lawful.{checkints_lawful}

@@ -1,5 +1,5 @@
 use Rattle.std.proofs.Common.{rules}
-use Rattle.sshkey_base.proofs.Judging.{judged}
+use Rattle.sshkey_base.proofs.Steps.{judged}
 use Rattle.sshkey_base.proofs.Stopping.{judged_stops}
 use Rattle.sshkey_base.specs.Causes.{cause}
 use Rattle.sshkey_pairs.specs.Keypairs.{pair_of}

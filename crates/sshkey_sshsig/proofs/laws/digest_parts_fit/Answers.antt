@@ -1,8 +1,8 @@
 use Rattle.std.proofs.Common.{◌≡◌, ◌<◌, ◌^◌, ℕ, List, length, arith}
-use Rattle.sshkey_base.specs.Digests.{digest_len}
+use Rattle.sshkey_base.specs.Names.{digest_len}
 use Rattle.sshkey_model.specs.Names.{Hash, Sha256, Sha512}
 use Rattle.sshkey_sshsig.specs.SshSignatures.{ssh_signature_of}
-use Rattle.sshkey_sshsig.proofs.SignedParts.{parts_fit}
+use Rattle.sshkey_sshsig.proofs.SshSignatures.{parts_fit}
 use Rattle.sshkey_sshsig.proofs.laws.digest_parts_fit.Goals as goal
 
 short_digest : (h : Hash) (d : List ℕ) → length d ≡ digest_len h → length d < 2 ^ 32

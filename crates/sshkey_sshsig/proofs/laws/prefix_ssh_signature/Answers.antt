@@ -9,7 +9,7 @@ use Rattle.sshkey_model.proofs.CombinedReaders.{fits_first, fits_second, prefix,
 use Rattle.sshkey_model.proofs.KeyReaders.{key_reads}
 use Rattle.sshkey_model.proofs.Trees.{prefix_free}
 use Rattle.sshkey_sshsig.specs.SshSignatures.{statement}
-use Rattle.sshkey_sshsig.proofs.SshSignatureTrees.{ssh_signature_grammar, ssh_signature_tree}
+use Rattle.sshkey_sshsig.proofs.SshSignatures.{ssh_signature_grammar, ssh_signature_tree}
 use Rattle.sshkey_sshsig.proofs.laws.prefix_ssh_signature.Goals as goal
 
 -- the key in its string follows the magic bytes and the version

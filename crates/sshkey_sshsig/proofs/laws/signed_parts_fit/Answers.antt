@@ -4,7 +4,7 @@ use Rattle.sha2.proofs.Facts512.{length-sha512}
 use Rattle.sshkey_model.specs.Fingerprints.{digest}
 use Rattle.sshkey_model.specs.Names.{Hash, Sha256, Sha512}
 use Rattle.sshkey_sshsig.specs.SshSignatures.{ssh_signature_of}
-use Rattle.sshkey_sshsig.proofs.SignedParts.{parts_fit}
+use Rattle.sshkey_sshsig.proofs.SshSignatures.{parts_fit}
 use Rattle.sshkey_sshsig.proofs.laws.signed_parts_fit.Goals as goal
 
 short_digest : (h : Hash) (m : List ℕ) → length (digest h m) < 2 ^ 32

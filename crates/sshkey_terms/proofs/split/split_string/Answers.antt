@@ -1,6 +1,6 @@
 use Rattle.std.proofs.Common.{refl}
 use Rattle.std.proofs.lemmas.Result.{err_from_is_err_and}
-use Rattle.sshkey_base.proofs.Leaves.{string_grammar}
+use Rattle.sshkey_base.proofs.Lawful.{string_grammar}
 use Rattle.sshkey_base.specs.Causes.{encoding_cause}
 use Rattle.sshkey_terms.proofs.SliceFronts.{split_spelled, no_length, string_is}
 use Rattle.sshkey_terms.proofs.split.split_string.Goals as goal

@@ -3,7 +3,7 @@ use Rattle.std.proofs.lemmas.Result.{err_from_is_err_and}
 use Rattle.sshkey_model.specs.Reading.{string_at}
 use Rattle.sshkey_model.specs.Texts.{text_at, text_from}
 use Rattle.sshkey_base.specs.Causes.{encoding_cause}
-use Rattle.sshkey_base.proofs.Leaves.{text_grammar}
+use Rattle.sshkey_base.proofs.Lawful.{text_grammar}
 use Rattle.sshkey_terms.proofs.SliceFronts.{split_spelled, split_refused, judge_refused, judge_taken}
 use Rattle.sshkey_terms.proofs.split.split_text.Goals as goal
 

@@ -1,7 +1,7 @@
 use Rattle.std.proofs.Common.{refl}
 use Rattle.std.proofs.lemmas.Result.{err_from_is_err_and}
 use Rattle.std.specs.Int.{w64}
-use Rattle.sshkey_base.proofs.Leaves.{number64_grammar}
+use Rattle.sshkey_base.proofs.Lawful.{number64_grammar}
 use Rattle.sshkey_base.specs.Causes.{encoding_cause}
 use Rattle.sshkey_terms.proofs.SliceFronts.{split_spelled, number_refused, number_is}
 use Rattle.sshkey_terms.proofs.split.split_u64.Goals as goal

@@ -1,6 +1,6 @@
 use Rattle.std.proofs.Common.{sym, refl}
 use Rattle.sshkey_base.specs.Causes.{cause}
-use Rattle.sshkey_base.proofs.CertifiedNames.{certified_judged}
+use Rattle.sshkey_base.proofs.OtherNames.{certified_judged}
 use Rattle.sshkey_base.proofs.algorithm.Algorithm.check_certificate.Goals as goal
 use Rattle.sshkey_base.proofs.algorithm.Algorithm.check_certificate.Goals.{in-Some, in-None}
 

@@ -1,8 +1,7 @@
 use Rattle.std.proofs.Common.{sym}
 use Rattle.sshkey_model.specs.Names.{algorithm_from}
-use Rattle.sshkey_base.specs.AlgorithmName.{own_name_from}
+use Rattle.sshkey_base.specs.Names.{own_name_from, algorithm_of}
 use Rattle.sshkey_base.specs.Causes.{cause}
-use Rattle.sshkey_base.specs.Names.{algorithm_of}
 use Rattle.sshkey_base.proofs.OtherNames.{other_from, unknown_from, not_own, handed_on, names_unknown}
 use Rattle.sshkey_base.proofs.algorithm.Algorithm.new.Goals as goal
 

@@ -1,10 +1,8 @@
 use Rattle.std.proofs.Common.{sym}
 use Rattle.sshkey_model.specs.CertificateNames.{certified_from}
 use Rattle.sshkey_base.specs.Causes.{cause}
-use Rattle.sshkey_base.specs.Names.{algorithm_of}
-use Rattle.sshkey_base.specs.AlgorithmName.{IsNoCertificateType}
-use Rattle.sshkey_base.proofs.OtherNames.{names_unknown, handed_on}
-use Rattle.sshkey_base.proofs.CertifiedNames.{certified_other, certified_unknown}
+use Rattle.sshkey_base.specs.Names.{algorithm_of, IsNoCertificateType}
+use Rattle.sshkey_base.proofs.OtherNames.{names_unknown, handed_on, certified_other, certified_unknown}
 use Rattle.sshkey_base.proofs.algorithm.Algorithm.new_certificate.Goals as goal
 
 pub returns-in_err-name-in-None-clause-gives : goal.returns-in_err-name-in-None-clause-gives

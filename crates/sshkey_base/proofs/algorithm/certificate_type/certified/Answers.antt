@@ -1,6 +1,6 @@
 use Rattle.std.proofs.Common.{rules, ◌≡◌, ap}
 use Rattle.sshkey_base.specs.Causes.{cause}
-use Rattle.sshkey_base.proofs.CertifiedNames.{no_certificate_name, certified_asked}
+use Rattle.sshkey_base.proofs.OtherNames.{no_certificate_name, certified_asked}
 use Rattle.sshkey_base.proofs.algorithm.certificate_type.certified.Goals as goal
 
 pub returns-in-Ok-clause-asks : goal.returns-in-Ok-clause-asks

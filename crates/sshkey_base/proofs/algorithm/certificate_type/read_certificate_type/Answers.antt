@@ -4,8 +4,8 @@ use Rattle.sshkey_model.specs.CertificateNames.{certificate_algorithm_at, certif
 use Rattle.sshkey_model.proofs.CertificateNameReaders.{certified_checks}
 use Rattle.sshkey_base.specs.Causes.{cause, same_cause}
 use Rattle.sshkey_base.specs.Names.{algorithm_of}
-use Rattle.sshkey_base.specs.ShortBytes.{short_of}
-use Rattle.sshkey_base.proofs.CertifiedNames.{certified_short, certified_refusals}
+use Rattle.sshkey_base.specs.Values.{short_of}
+use Rattle.sshkey_base.proofs.OtherNames.{certified_short, certified_refusals}
 use Rattle.sshkey_base.proofs.NameStrings.{name_refused, name_reads, long_reads, long_refused, named_gives, named_asks, named_stops, long_stopped, after_asks}
 use Rattle.sshkey_base.proofs.Steps.{refuses_sound, refuses_first, after_length, after_refused, length_refused}
 use Rattle.sshkey_base.proofs.Stopping.{judged_length_stopped, after_judged_stops, after_judged_stopped, refused_stopped}

@@ -1,6 +1,6 @@
 use Rattle.std.proofs.Common.{◌≡◌, true, false, refl}
-use Rattle.sshkey_base.specs.AlgorithmName.{are_own_parts}
-use Rattle.sshkey_base.proofs.CertificateTypes.{no_type, no_parts, has_name}
+use Rattle.sshkey_base.specs.Names.{are_own_parts}
+use Rattle.sshkey_base.proofs.OwnNames.{no_type, no_parts, has_name}
 use Rattle.sshkey_base.proofs.algorithm.name.certified_parts.Goals as goal
 
 pub returns-in_err-name : goal.returns-in_err-name

@@ -1,4 +1,4 @@
-use Rattle.sshkey_base.proofs.OwnNameTests.{are_ascii_is}
+use Rattle.sshkey_base.proofs.OwnNames.{are_ascii_is}
 use Rattle.sshkey_base.proofs.algorithm.name.is_ascii.Goals as goal
 
 pub returns : goal.returns

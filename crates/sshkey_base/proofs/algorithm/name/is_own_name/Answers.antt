@@ -1,6 +1,6 @@
 use Rattle.std.proofs.Common.{sym}
 use Rattle.sshkey_model.proofs.CertificateNameReaders.{cut_parts}
-use Rattle.sshkey_base.proofs.CertificateTypes.{own_parts, not_split}
+use Rattle.sshkey_base.proofs.OwnNames.{own_parts, not_split}
 use Rattle.sshkey_base.proofs.algorithm.name.is_own_name.Goals as goal
 
 pub returns-in-Some : goal.returns-in-Some

@@ -1,6 +1,6 @@
 use Rattle.std.proofs.Common.{lit<}
 use Rattle.std.proofs.lemmas.Str.Pattern.{split_parts}
-use Rattle.sshkey_base.proofs.AtSigns.{is_cut}
+use Rattle.sshkey_base.proofs.OwnNames.{is_cut}
 use Rattle.sshkey_base.proofs.algorithm.name.split_at_sign.Goals as goal
 
 pub returns : goal.returns

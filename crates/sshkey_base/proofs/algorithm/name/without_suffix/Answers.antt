@@ -1,6 +1,6 @@
 use Rattle.std.proofs.Common.{List, ◌++◌, ℕ, ap, sym, ◌∙◌}
 use Rattle.sshkey_model.specs.CertificateNames.{suffix}
-use Rattle.sshkey_base.proofs.CertificateTypes.{no_at_sign, no_suffix, are_parts}
+use Rattle.sshkey_base.proofs.OwnNames.{no_at_sign, no_suffix, are_parts}
 use Rattle.sshkey_base.proofs.algorithm.name.without_suffix.Goals as goal
 
 pub returns-in_err-name : goal.returns-in_err-name

@@ -1,4 +1,4 @@
-use Rattle.sshkey_base.proofs.PlainParts.{encodes_first, encodes_later}
+use Rattle.sshkey_base.proofs.WrittenLists.{encodes_first, encodes_later}
 use Rattle.sshkey_base.proofs.algorithm.name.write_parts.Goals as goal
 
 pub returns-in_err-write_text-2 : goal.returns-in_err-write_text-2

@@ -4,7 +4,7 @@ use Rattle.sshkey_model.specs.Texts.{text_at, texts_at, NeedsTexts, text_list_at
 use Rattle.sshkey_base.specs.Causes.{encoding_cause}
 use Rattle.sshkey_base.proofs.Lengths.{text_lengths, to_end_lengths}
 use Rattle.sshkey_model.specs.Overruns.{OverrunsList, OverrunsString}
-use Rattle.sshkey_base.specs.TextLists.{texts_of}
+use Rattle.sshkey_base.specs.Values.{texts_of}
 use Rattle.sshkey_base.proofs.Boxes.{prefixed_gives}
 use Rattle.sshkey_base.proofs.FilledBoxes.{filled_stops}
 use Rattle.sshkey_base.proofs.ReadLists.{box_to_end, same_gives}

@@ -2,8 +2,7 @@ use Rattle.std.proofs.Common.{arith, Option, Some, None, ℕ, ◌≤◌, length,
 use Rattle.std.specs.Prelude.{IfSome}
 use denote.Ref.{Bor}
 use Rattle.sshkey_model.specs.Reading.{bytes_at}
-use Rattle.sshkey_base.specs.Source.{Source, after, part}
-use Rattle.sshkey_base.specs.Reading.{Reads}
+use Rattle.sshkey_base.specs.Reading.{Source, after, part, Reads}
 use Rattle.sshkey_base.proofs.Lending.{part_lends}
 use Rattle.sshkey_base.proofs.reader.NestedReaderReader.ahead.Goals as goal
 

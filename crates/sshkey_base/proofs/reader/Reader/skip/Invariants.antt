@@ -1,5 +1,5 @@
 use Rattle.std.proofs.Common.{◌≡◌, ◌-◌, ◌≤◌}
-use Rattle.sshkey_base.specs.Source.{after}
+use Rattle.sshkey_base.specs.Reading.{after}
 use Rattle.sshkey_base.proofs.reader.Reader.skip.Given as goal
 
 abbrev pub invariant-passes : goal.invariant-passes

@@ -1,5 +1,5 @@
 use Rattle.std.proofs.lemmas.Result.{err_from_is_err_and}
-use Rattle.sshkey_base.proofs.Counts.{count_is, count_misfit}
+use Rattle.sshkey_base.proofs.NormalForms.{count_is, count_misfit}
 use Rattle.sshkey_base.proofs.Writing.{misfit}
 use Rattle.sshkey_base.proofs.size.UsizeEncode.encode.Goals as goal
 

@@ -1,5 +1,5 @@
 use Rattle.std.proofs.lemmas.Result.{err_from_is_err_and}
-use Rattle.sshkey_base.proofs.Counts.{count_is, count_misfit}
+use Rattle.sshkey_base.proofs.NormalForms.{count_is, count_misfit}
 use Rattle.sshkey_base.proofs.size.UsizeEncode.encoded_len.Goals as goal
 
 pub returns-in_err-u32_of-clause-measures : goal.returns-in_err-u32_of-clause-measures

@@ -1,7 +1,7 @@
 use Rattle.std.proofs.Common.{◌≡◌, ◌⊎◌, refl, arith, ◌∙◌, sym, ap, ℕ, List, [], ◌++◌, length, inl, inr}
 use Rattle.std.specs.Prelude.{slice_range}
 use Rattle.sshkey_model.specs.Parts.{are_bytes}
-use Rattle.sshkey_base.specs.Source.{announced_len, Source}
+use Rattle.sshkey_base.specs.Reading.{announced_len, Source}
 use Rattle.sshkey_base64.specs.Words64.{word_source, good}
 use Rattle.sshkey_base64.proofs.WordSources.{group_held, group_refused, not_in_place, range_none, are_split, told_held, no_items}
 use Rattle.sshkey_base64.proofs.base64_reader.Base64Reader.hold.Goals as goal

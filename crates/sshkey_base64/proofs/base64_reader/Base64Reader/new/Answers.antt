@@ -1,7 +1,7 @@
 use Rattle.std.proofs.Common.{arith, ◌∙◌, sym, subst, ap, ℕ, List, [], zero-add}
 use Rattle.sshkey_model.specs.Parts.{are_bytes}
 use Rattle.sshkey_model.proofs.CombinedReaders.{fit_bytes}
-use Rattle.sshkey_base.specs.Source.{announced_len}
+use Rattle.sshkey_base.specs.Reading.{announced_len}
 use Rattle.sshkey_base64.specs.Words64.{announced, word_source, IsSourceOf}
 use Rattle.sshkey_base64.proofs.GoodBytes.{source_of}
 use Rattle.sshkey_base64.proofs.WordSources.{told_is}

@@ -3,7 +3,7 @@ use Rattle.std.specs.Prelude.{slice_range}
 use Rattle.std.proofs.lemmas.Result.{err_from_is_err_and}
 use Rattle.sshkey_model.specs.Parts.{are_bytes}
 use Rattle.sshkey_model.proofs.CombinedReaders.{fit_bytes}
-use Rattle.sshkey_base.specs.Source.{Advances}
+use Rattle.sshkey_base.specs.Reading.{Advances}
 use Rattle.sshkey_base64.specs.Words64.{word_source, good}
 use Rattle.sshkey_base64.proofs.WordSources.{groups_taken, groups_refused, range_none, are_split, no_items, nothing_taken}
 use Rattle.sshkey_base64.proofs.base64_reader.Base64Reader.read_groups.Goals as goal

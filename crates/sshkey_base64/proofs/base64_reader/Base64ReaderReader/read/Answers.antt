@@ -1,7 +1,7 @@
 use Rattle.std.proofs.Common.{◌≡◌, ℕ, ◌+◌, ◌-◌, arith, ap, ◌∙◌, length, ◌++◌}
 use Rattle.std.proofs.lemmas.List.{length-append}
 use Rattle.std.specs.Prelude.{slice_range}
-use Rattle.sshkey_base.specs.Source.{announced_len}
+use Rattle.sshkey_base.specs.Reading.{announced_len}
 use Rattle.sshkey_base64.specs.Words64.{announced, word_source}
 use Rattle.sshkey_base64.proofs.WordSources.{told_is, told_before, range_length, takes_all, later_all}
 use Rattle.sshkey_base64.proofs.base64_reader.Base64ReaderReader.read.Goals as goal

@@ -1,7 +1,7 @@
 use Rattle.std.proofs.Common.{Ok, ap, ◌∙◌}
 use Rattle.std.proofs.lemmas.Result.{err_from_is_err_and}
 use Rattle.sshkey_base.specs.Causes.{cause, same_cause}
-use Rattle.sshkey_base.specs.Source.{all_of}
+use Rattle.sshkey_base.specs.Reading.{all_of}
 use Rattle.sshkey_base.proofs.Accepted.{accepts_whole, finish_refused, finish_asks}
 use Rattle.sshkey_base.proofs.Steps.{refused_first}
 use Rattle.sshkey_model.specs.Certificates.{certificate_format}

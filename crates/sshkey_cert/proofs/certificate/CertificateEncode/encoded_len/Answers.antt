@@ -1,6 +1,5 @@
 use Rattle.std.proofs.lemmas.Result.{err_from_is_err_and}
-use Rattle.sshkey_base.proofs.Writing.{boxes_first, boxes_second}
-use Rattle.sshkey_base.proofs.Tails.{two}
+use Rattle.sshkey_base.proofs.Writing.{boxes_first, boxes_second, two}
 use Rattle.sshkey_cert.proofs.certificate.CertificateEncode.encoded_len.Goals as goal
 
 pub returns-in_err-encoded_len-clause-measures : goal.returns-in_err-encoded_len-clause-measures

@@ -1,6 +1,6 @@
 use Rattle.std.proofs.Common.{◌≡◌, ◌∙◌, subst, sym, rules}
 use Rattle.std.specs.Prelude.{IsSome}
-use Rattle.sshkey_base.specs.TextLists.{texts_of}
+use Rattle.sshkey_base.specs.Values.{texts_of}
 use Rattle.sshkey_keys.specs.Keys.{key_of}
 use Rattle.sshkey_model.specs.Drafts.{drafted}
 use Rattle.sshkey_cert_builder.specs.Builders.{draft_of}

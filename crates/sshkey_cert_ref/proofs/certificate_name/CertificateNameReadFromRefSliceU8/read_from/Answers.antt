@@ -1,7 +1,7 @@
 use Rattle.sshkey_base.specs.Causes.{cause}
 use Rattle.sshkey_model.specs.CertificateNames.{certificate_algorithm_at, certified_from}
 use Rattle.sshkey_model.specs.Reading.{string_at}
-use Rattle.sshkey_base.proofs.Judging.{judged_always}
+use Rattle.sshkey_base.proofs.Steps.{judged_always}
 use Rattle.sshkey_cert_ref.specs.Certificates.{certified_in}
 use Rattle.sshkey_cert_ref.proofs.certificate_name.CertificateNameReadFromRefSliceU8.read_from.Goals as goal
 

@@ -7,7 +7,7 @@ use Rattle.sshkey_model.specs.Keys.{body_at}
 use Rattle.sshkey_model.specs.Names.{Algorithm}
 use Rattle.sshkey_model.proofs.CombinedReaders.{ok_is}
 use Rattle.sshkey_cert_ref.specs.Certificates.{spelled_in}
-use Rattle.sshkey_base.proofs.Judging.{only_memory}
+use Rattle.sshkey_base.proofs.Steps.{only_memory}
 use Rattle.sshkey_cert.proofs.Certificates.{certified_key_is}
 use Rattle.sshkey_cert_ref.proofs.Answers.{given_front, well_formed, body_in_place, name_listed}
 use Rattle.sshkey_cert_ref.proofs.Certificates.{spelled_by, spells, name_is, body_is}

@@ -1,7 +1,7 @@
 use Rattle.std.proofs.Common.{refl}
 use Rattle.std.proofs.lemmas.Result.{err_from_is_err_and}
 use Rattle.sshkey_base.specs.Causes.{encoding_cause}
-use Rattle.sshkey_base.proofs.Leaves.{texts_grammar}
+use Rattle.sshkey_base.proofs.Lawful.{texts_grammar}
 use Rattle.sshkey_terms.proofs.SliceFronts.{split_spelled}
 use Rattle.sshkey_cert_ref.specs.Views.{texts_of}
 use Rattle.sshkey_cert_ref.proofs.principals_ref.PrincipalsRef.from_front.Goals as goal

@@ -1,4 +1,4 @@
-use Rattle.sshkey_base.proofs.PlainParts.{encodes_later}
+use Rattle.sshkey_base.proofs.WrittenLists.{encodes_later}
 use Rattle.sshkey_cert_values.proofs.certificate_fields.CertificateFields.encode_grant.Goals as goal
 
 pub returns : goal.returns

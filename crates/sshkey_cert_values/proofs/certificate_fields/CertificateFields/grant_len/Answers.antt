@@ -1,4 +1,4 @@
-use Rattle.sshkey_base.proofs.Tails.{three, third_misfit}
+use Rattle.sshkey_base.proofs.Writing.{three, third_misfit}
 use Rattle.std.proofs.lemmas.Result.{err_from_is_err_and}
 use Rattle.sshkey_cert_values.proofs.certificate_fields.CertificateFields.grant_len.Goals as goal
 

@@ -1,4 +1,4 @@
-use Rattle.sshkey_base.proofs.Tails.{three}
+use Rattle.sshkey_base.proofs.Writing.{three}
 use Rattle.sshkey_cert_values.proofs.certificate_fields.CertificateFields.names_len.Goals as goal
 
 pub returns-clause-measures : goal.returns-clause-measures

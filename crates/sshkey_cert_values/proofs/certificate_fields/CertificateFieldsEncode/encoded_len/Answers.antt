@@ -1,5 +1,5 @@
 use Rattle.std.proofs.Common.{arith}
-use Rattle.sshkey_base.proofs.Tails.{two, three}
+use Rattle.sshkey_base.proofs.Writing.{two, three}
 use Rattle.sshkey_cert_values.proofs.WrittenFields.{name_measured}
 use Rattle.sshkey_cert_values.proofs.certificate_fields.CertificateFieldsEncode.encoded_len.Goals as goal
 

@@ -1,6 +1,6 @@
 use Rattle.std.proofs.Common.{◌≡◌, Option, map}
 use Rattle.sshkey_model.specs.Options.{CertificateOption, name_before}
-use Rattle.sshkey_base.specs.Source.{Later, announced_len}
+use Rattle.sshkey_base.specs.Reading.{Later, announced_len}
 use Rattle.sshkey_base.proofs.ReadLists.{Collects, StillOverruns}
 use Rattle.sshkey_cert_values.specs.CertificateFields.{option_of, name_at_end, NamesRise, gathered_pairs}
 use Rattle.sshkey_cert_values.proofs.Lawful.{item}

@@ -1,6 +1,6 @@
 use Rattle.std.proofs.Common.{◌≢◌}
 use Rattle.std.specs.Prelude.{string_bytes}
-use Rattle.sshkey_base.specs.Source.{announced_len}
+use Rattle.sshkey_base.specs.Reading.{announced_len}
 use Rattle.sshkey_model.specs.Texts.{text_at}
 use Rattle.sshkey_base.specs.Causes.{encoding_cause}
 use Rattle.sshkey_model.specs.Needs.{NeedsString}

@@ -1,6 +1,6 @@
 use Rattle.sshkey_base.specs.Causes.{cause}
 use Rattle.sshkey_base.proofs.Stopping.{same_stops}
-use Rattle.sshkey_terms.proofs.Chosen.{chosen_stops}
+use Rattle.sshkey_terms.proofs.Records.{chosen_stops}
 use Rattle.sshkey_ciphers.specs.Formats.{algorithm_format, kdf_format, options_format}
 use Rattle.sshkey_ciphers.proofs.Lawful.{algorithm_lawful, kdf_chosen, options_end}
 use Rattle.sshkey_ciphers.proofs.kdf.KdfDecode.decode.Goals as goal

@@ -4,11 +4,11 @@ use Rattle.sshkey_model.specs.Names.{Algorithm}
 use Rattle.sshkey_model.specs.Keys.{Key, Dsa, Ecdsa, Ed25519, Rsa, SkEcdsa, SkEd25519, Opaque}
 use Rattle.sshkey_model.specs.Signatures.{Signature}
 use Rattle.sshkey_model.specs.Verification.{IsAccepted}
-use Rattle.sshkey_base.specs.Answers.{AnswersAlways}
+use Rattle.sshkey_base.specs.Judgements.{AnswersAlways}
 use Rattle.sshkey_base.specs.Causes.{cause}
 use Rattle.sshkey_base.specs.declared.error.Error.{Error}
 use Rattle.sshkey_base.specs.declared.error.Error.TheVariants.{Memory}
-use Rattle.sshkey_keys.specs.KeyKinds.{is_ed25519}
+use Rattle.sshkey_keys.specs.Keys.{is_ed25519}
 use Rattle.sshkey_keys.specs.SignatureForms.{signature_from}
 use Rattle.sshkey_keys.specs.Signatures.{signature_of}
 use Rattle.sshkey_keys.specs.declared.signature.Signature.{Signature as TheSignature}

@@ -1,6 +1,6 @@
 use Rattle.std.proofs.Common.{arith}
 use Rattle.std.proofs.Output.{has_written_of_eq}
-use Rattle.sshkey_fingerprints.proofs.Titles.{titled}
+use Rattle.sshkey_fingerprints.proofs.Pictures.{titled}
 use Rattle.sshkey_fingerprints.proofs.fingerprint.picture.write_title.Goals as goal
 
 pub returns : goal.returns

@@ -3,7 +3,7 @@ use Rattle.base64.specs.Engines.{standard_no_pad}
 use Rattle.base64.specs.GeneralPurpose.{decode_of, encode_of, IsBytes}
 use Rattle.base64.proofs.EngineFacts.{decode_of_strict}
 use Rattle.sshkey_base.specs.declared.error.Error.{Error}
-use Rattle.sshkey_fingerprints.specs.FingerprintTexts.{IsSized, ReadsDigest}
+use Rattle.sshkey_fingerprints.specs.Fingerprints.{IsSized, ReadsDigest}
 use Rattle.sshkey_fingerprints.proofs.Encoded.{not_encoded}
 use Rattle.sshkey_fingerprints.proofs.fingerprint.text.digest_from.Goals as goal
 

@@ -1,7 +1,7 @@
 use Rattle.std.proofs.Common.{ap, arith, ◌∙◌}
 use Rattle.std.proofs.lemmas.List.{take_all}
-use Rattle.sshkey_fingerprints.specs.Walks.{index}
-use Rattle.sshkey_fingerprints.proofs.Shades.{shaded}
+use Rattle.sshkey_fingerprints.specs.Pictures.{index}
+use Rattle.sshkey_fingerprints.proofs.Walks.{shaded}
 use Rattle.sshkey_fingerprints.proofs.random_art.RandomArt.new.Goals as goal
 
 pub returns : goal.returns

@@ -1,7 +1,7 @@
 use Rattle.std.proofs.Common.{take}
 use Rattle.std.specs.List.{flat_map}
 use Rattle.sshkey_fingerprints.specs.RandomArt.{steps}
-use Rattle.sshkey_fingerprints.specs.Walks.{IsWalk}
+use Rattle.sshkey_fingerprints.specs.Pictures.{IsWalk}
 use Rattle.sshkey_fingerprints.proofs.random_art.RandomArt.new.Given as goal
 
 abbrev pub invariant-loop-byte : goal.invariant-loop-byte

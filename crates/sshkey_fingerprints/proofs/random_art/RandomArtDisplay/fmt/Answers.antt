@@ -1,6 +1,6 @@
 use Rattle.std.proofs.Common.{refl, sym, arith}
 use Rattle.std.proofs.Output.{has_written_styled_append, has_written_styled_nil, has_written_styled_of_eq}
-use Rattle.sshkey_fingerprints.proofs.Rows.{first_none, row_more}
+use Rattle.sshkey_fingerprints.proofs.Pictures.{first_none, row_more}
 use Rattle.sshkey_fingerprints.proofs.random_art.RandomArtDisplay.fmt.Goals as goal
 
 pub loop-row-init : goal.loop-row-init

@@ -1,5 +1,5 @@
 use Rattle.std.specs.Fmt.{HasWrittenStyled, IsFlush}
-use Rattle.sshkey_fingerprints.specs.Walks.{first_rows}
+use Rattle.sshkey_fingerprints.specs.Pictures.{first_rows}
 use Rattle.sshkey_fingerprints.proofs.random_art.RandomArtDisplay.fmt.Given as goal
 
 abbrev pub invariant-loop-row : goal.invariant-loop-row

@@ -1,7 +1,7 @@
 use Rattle.std.proofs.Common.{arith, ◌<◌, ℕ}
 use Rattle.std.proofs.lemmas.List.{get_or-replicate, length-replicate}
 use Rattle.sshkey_fingerprints.specs.RandomArt.{reached, last_of}
-use Rattle.sshkey_fingerprints.specs.Walks.{index}
+use Rattle.sshkey_fingerprints.specs.Pictures.{index}
 use Rattle.sshkey_fingerprints.proofs.random_art.Walk.new.Goals as goal
 
 pub returns : goal.returns

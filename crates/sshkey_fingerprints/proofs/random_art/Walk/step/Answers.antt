@@ -1,8 +1,8 @@
 use Rattle.std.proofs.Common.{◌≡◌, ◌≤◌, ◌+◌, ℕ, get_or, set, sym, ap, arith}
 use Rattle.std.specs.Prelude.{min}
 use Rattle.std.proofs.lemmas.List.{set-get_or}
-use Rattle.sshkey_fingerprints.specs.Walks.{cell_of, index}
-use Rattle.sshkey_fingerprints.proofs.Walking.{walked}
+use Rattle.sshkey_fingerprints.specs.Pictures.{cell_of, index}
+use Rattle.sshkey_fingerprints.proofs.Walks.{walked}
 use Rattle.sshkey_fingerprints.proofs.random_art.Walk.step.Goals as goal
 
 pub returns-then-self-place-lt-MOST : goal.returns-then-self-place-lt-MOST

@@ -1,5 +1,5 @@
 use Rattle.sshkey_base.specs.Causes.{cause}
-use Rattle.sshkey_terms.proofs.Chosen.{chosen_stops}
+use Rattle.sshkey_terms.proofs.Records.{chosen_stops}
 use Rattle.sshkey_model.specs.Keys.{body_format, key_format}
 use Rattle.sshkey_model.specs.Names.{name_format}
 use Rattle.sshkey_keys.proofs.KeyReaders.{key_chosen}

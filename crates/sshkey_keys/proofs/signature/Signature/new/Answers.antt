@@ -4,7 +4,7 @@ use Rattle.sshkey_model.specs.Reading.{Fault}
 use Rattle.sshkey_model.specs.Names.{Algorithm}
 use Rattle.sshkey_model.specs.Signatures.{IsSignatureBlob}
 use Rattle.sshkey_base.specs.declared.error.Error.{Error}
-use Rattle.sshkey_base.specs.Answers.{AnswersAlways}
+use Rattle.sshkey_base.specs.Judgements.{AnswersAlways}
 use Rattle.sshkey_base.specs.Causes.{cause}
 use Rattle.sshkey_keys.specs.SignatureForms.{blob_from}
 use Rattle.sshkey_keys.proofs.SignatureForms.{blob_takes, blob_again}

@@ -1,6 +1,6 @@
 use Rattle.std.proofs.Common.{rules}
 use Rattle.sshkey_base.specs.Names.{algorithm_of}
-use Rattle.sshkey_keys.proofs.TrailedBlobs.{judged_past}
+use Rattle.sshkey_keys.proofs.SignatureReaders.{judged_past}
 use Rattle.sshkey_keys.proofs.signature.wire.decode_string.Goals as goal
 
 pub returns-clause-past : goal.returns-clause-past

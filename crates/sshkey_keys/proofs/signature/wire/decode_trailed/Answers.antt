@@ -1,7 +1,7 @@
 use Rattle.sshkey_base.specs.Names.{algorithm_of}
 use Rattle.sshkey_terms.proofs.Stopping.{widened_stops}
 use Rattle.sshkey_model.specs.Signatures.{string_from}
-use Rattle.sshkey_keys.proofs.TrailedBlobs.{trailer_stopped, both_asks, both_stops}
+use Rattle.sshkey_keys.proofs.SignatureReaders.{trailer_stopped, both_asks, both_stops}
 use Rattle.sshkey_keys.proofs.signature.wire.decode_trailed.Goals as goal
 
 pub returns-in_err-trailer-clause-past : goal.returns-in_err-trailer-clause-past

@@ -1,12 +1,11 @@
 use Rattle.sshkey_base.specs.Causes.{cause}
 use Rattle.sshkey_base.specs.Names.{algorithm_of}
 use Rattle.sshkey_terms.proofs.Lawful.{checked_read}
-use Rattle.sshkey_terms.proofs.Mapped.{mapped_handed}
+use Rattle.sshkey_terms.proofs.Records.{mapped_handed}
 use Rattle.sshkey_terms.proofs.Stopping.{mapped_stops}
 use Rattle.sshkey_model.specs.Signatures.{blob_format, signature_under, signature_with}
 use Rattle.sshkey_keys.specs.Signatures.{signature_of}
-use Rattle.sshkey_keys.proofs.SignatureForms.{tested}
-use Rattle.sshkey_keys.proofs.SignatureParts.{read_formed}
+use Rattle.sshkey_keys.proofs.SignatureForms.{tested, read_formed}
 use Rattle.sshkey_keys.proofs.signature.wire.decode_under.Goals as goal
 
 pub returns-in_err-blob-clause-gives : goal.returns-in_err-blob-clause-gives

@@ -1,7 +1,7 @@
 use Rattle.std.proofs.Common.{rules, ◌∙◌}
 use Rattle.std.proofs.lemmas.Bool.Decides.{Decides-at, Decides-eqb}
 use Rattle.std.proofs.lemmas.Slice.Eq.{bytes_eq-Decides}
-use Rattle.sshkey_kinds.proofs.EqualPoints.{same_arrays, same_lengths}
+use Rattle.sshkey_kinds.proofs.Points.{same_arrays, same_lengths}
 use Rattle.sshkey_kinds.proofs.ec_point.EcPointPartialEq.eq.Goals as goal
 
 pub returns-then-self-other-clause-value : goal.returns-then-self-other-clause-value

@@ -4,14 +4,13 @@ use Rattle.sshkey_model.specs.Names.{Curve}
 use Rattle.sshkey_model.specs.Points.{point_curve}
 use Rattle.sshkey_base.specs.declared.algorithm.curve.EcdsaCurve.{EcdsaCurve}
 use Rattle.sshkey_base.specs.declared.error.Error.{Error}
-use Rattle.sshkey_base.specs.Answers.{AnswersAlways}
+use Rattle.sshkey_base.specs.Judgements.{AnswersAlways}
 use Rattle.sshkey_base.specs.Causes.{cause}
 use Rattle.sshkey_base.specs.Names.{curve_of}
 use Rattle.sshkey_kinds.specs.declared.ecdsa.EcdsaPublicKey.{EcdsaPublicKey}
 use Rattle.sshkey_kinds.specs.declared.ec_point.EcPoint.{EcPoint}
-use Rattle.sshkey_kinds.specs.EcdsaPublicKey.{ecdsa_of}
-use Rattle.sshkey_kinds.specs.PointSizes.{is_point_within}
-use Rattle.sshkey_kinds.specs.EcPoint.{point_of}
+use Rattle.sshkey_kinds.specs.Kinds.{ecdsa_of, point_of}
+use Rattle.sshkey_kinds.specs.PointStrings.{is_point_within}
 use Rattle.sshkey_kinds.proofs.Points.{taken_points}
 use Rattle.sshkey_kinds.proofs.ecdsa.EcdsaPublicKey.from_sec1_bytes.Goals as goal
 use Rattle.sshkey_kinds.proofs.ecdsa.EcdsaPublicKey.from_sec1_bytes.Goals.{in-NistP256+in_ok-from_bytes-in-NistP256, in-NistP384+in_ok-from_bytes-in-NistP384, in-NistP521+in_ok-from_bytes-in-NistP521}

@@ -1,4 +1,4 @@
-use Rattle.sshkey_kinds.proofs.Parts.{off_stopped}
+use Rattle.sshkey_kinds.proofs.Points.{off_stopped}
 use Rattle.sshkey_kinds.proofs.ecdsa.EcdsaPublicKeyDecode.decode.Goals as goal
 
 pub returns-then-not-is_on-clause-past : goal.returns-then-not-is_on-clause-past

@@ -1,4 +1,4 @@
-use Rattle.sshkey_terms.proofs.Walking.{later_bytes}
+use Rattle.sshkey_terms.proofs.Walks.{later_bytes}
 use Rattle.sshkey_krl.proofs.header.MagicReadFromRefSliceU8.read_from.Goals as goal
 
 pub returns-clause-later : goal.returns-clause-later

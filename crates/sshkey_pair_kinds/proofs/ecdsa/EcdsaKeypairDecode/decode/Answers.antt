@@ -2,8 +2,8 @@ use Rattle.sshkey_model.specs.Keys.{any_ecdsa_format}
 use Rattle.sshkey_base.specs.Causes.{cause}
 use Rattle.sshkey_model.specs.Needs.{NoNeed}
 use Rattle.sshkey_model.specs.Overruns.{OverrunsString}
-use Rattle.sshkey_terms.proofs.Chosen.{chosen_handed, chosen_handed_stops, chosen_stops}
-use Rattle.sshkey_terms.proofs.Needless.{needless_stops}
+use Rattle.sshkey_terms.proofs.Records.{chosen_handed, chosen_handed_stops, chosen_stops}
+use Rattle.sshkey_terms.proofs.Walks.{needless_stops}
 use Rattle.sshkey_kinds.proofs.Lawful.{any_ecdsa_lawful}
 use Rattle.sshkey_model.specs.KeyPairs.{any_ecdsa_pair_format, pair_of_key}
 use Rattle.sshkey_pair_kinds.proofs.Lawful.{ecdsa_pair_chosen}

@@ -1,8 +1,7 @@
 use Rattle.sshkey_base.specs.Causes.{cause}
 use Rattle.sshkey_model.specs.Leaves.{array_format}
 use Rattle.sshkey_model.specs.Terms.{◌then◌}
-use Rattle.sshkey_terms.proofs.Mapped.{mapped_handed}
-use Rattle.sshkey_terms.proofs.Tested.{tested_stops}
+use Rattle.sshkey_terms.proofs.Records.{mapped_handed, tested_stops}
 use Rattle.sshkey_pair_kinds.specs.Pairs.{ed25519_pair_of}
 use Rattle.sshkey_model.specs.KeyPairs.{ed25519_halves_from, ed25519_pair_format}
 use Rattle.sshkey_terms.proofs.Lawful.{checked_read}

@@ -1,7 +1,7 @@
 use Rattle.sshkey_base.specs.Causes.{cause}
 use Rattle.sshkey_model.specs.KeyPairs.{rsa_pair_format, rsa_pair_from}
 use Rattle.sshkey_terms.proofs.Lawful.{checked_read}
-use Rattle.sshkey_terms.proofs.Mapped.{mapped_handed}
+use Rattle.sshkey_terms.proofs.Records.{mapped_handed}
 use Rattle.sshkey_terms.proofs.Stopping.{mapped_stops}
 use Rattle.sshkey_pair_kinds.proofs.rsa.RsaKeypairDecode.decode.Goals as goal
 

@@ -1,7 +1,7 @@
 use Rattle.std.proofs.Common.{subst, IsOk}
 use Rattle.sshkey_base.specs.Names.{hash_of}
 use Rattle.sshkey_pairs.specs.Keypairs.{pair_of}
-use Rattle.sshkey_keys.specs.Fingerprints.{GivesFingerprint, IsShort}
+use Rattle.sshkey_keys.specs.Keys.{GivesFingerprint, IsShort}
 use Rattle.sshkey_model.specs.Keys.{Key}
 use Rattle.sshkey_private.specs.PrivateKeys.{key_fields}
 use Rattle.sshkey_private.proofs.KeyForms.{public_is}

@@ -1,5 +1,5 @@
 use Rattle.sshkey_base.specs.Causes.{cause}
-use Rattle.sshkey_base.specs.Source.{all_of}
+use Rattle.sshkey_base.specs.Reading.{all_of}
 use Rattle.sshkey_base.proofs.Accepted.{accepts_whole_by}
 use Rattle.sshkey_private.specs.PrivateKeys.{private_of}
 use Rattle.sshkey_private.proofs.PrivateKeyGrammars.{padded_key_lawful}

@@ -1,7 +1,7 @@
 use Rattle.std.proofs.Common.{Err, suc}
 use Rattle.std.proofs.lemmas.Result.{err_from_is_err_and}
 use Rattle.sshkey_base.specs.Causes.{cause}
-use Rattle.sshkey_terms.proofs.Chosen.{chosen_stopped, chosen_stops}
+use Rattle.sshkey_terms.proofs.Records.{chosen_stopped, chosen_stops}
 use Rattle.sshkey_private.specs.declared.private_key.PrivateKey.{PrivateKey}
 use Rattle.sshkey_private.specs.PrivateKeyFormats.{opening_of, opening_parts, opening_at, NeedsContent, OverrunsContent, last_content_at, steps_at, delimited_by}
 use Rattle.sshkey_private.proofs.Lawful.{opening_lawful}

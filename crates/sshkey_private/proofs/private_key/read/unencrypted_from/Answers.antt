@@ -1,7 +1,7 @@
 use Rattle.std.proofs.Common.{suc}
 use Rattle.std.proofs.lemmas.Result.{err_from_is_err_and}
 use Rattle.sshkey_keys.specs.Keys.{key_of}
-use Rattle.sshkey_terms.proofs.Mapped.{mapped_reads, mapped_refused}
+use Rattle.sshkey_terms.proofs.Records.{mapped_reads, mapped_refused}
 use Rattle.sshkey_terms.proofs.Stopping.{mapped_stopped}
 use Rattle.sshkey_private.specs.PrivateParts.{inner_of, part_format}
 use Rattle.sshkey_private.specs.PrivateKeyFormats.{key_of_part, unencrypted_below}

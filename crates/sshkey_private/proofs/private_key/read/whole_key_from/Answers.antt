@@ -2,7 +2,7 @@ use Rattle.std.proofs.lemmas.Result.{err_from_is_err_and}
 use Rattle.sshkey_base.specs.declared.encoding.Error.{Error}
 use Rattle.sshkey_base.specs.declared.encoding.Error.TheVariants.{TrailingData}
 use Rattle.sshkey_base.specs.Causes.{NoMemory, encoding_cause, cause, same_cause}
-use Rattle.sshkey_base.specs.Source.{all_of}
+use Rattle.sshkey_base.specs.Reading.{all_of}
 use Rattle.sshkey_base.proofs.Accepted.{finish_refused}
 use Rattle.sshkey_base.proofs.Steps.{refused_first}
 use Rattle.std.proofs.Common.{◌≡◌, ℕ, suc, Bool, true, false, cond, Result, Ok, Err, ◌∙◌, sym, ap, subst}

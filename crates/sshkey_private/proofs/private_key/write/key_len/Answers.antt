@@ -1,7 +1,7 @@
 use Rattle.std.proofs.Common.{arith}
 use Rattle.sshkey_model.specs.Parts.{BoxesFit, bytes}
 use Rattle.sshkey_model.specs.PrivateKeys.{private_key_magic}
-use Rattle.sshkey_base.proofs.Measured.{both_have, refused_measure}
+use Rattle.sshkey_base.proofs.Writing.{both_have, refused_measure}
 use Rattle.sshkey_private.specs.PrivateKeys.{key_parts}
 use Rattle.sshkey_private.proofs.KeyForms.{magic_has}
 use Rattle.sshkey_private.proofs.private_key.write.key_len.Goals as goal

@@ -2,7 +2,7 @@ use Rattle.std.proofs.Common.{refl, subst}
 use Rattle.sshkey_model.specs.Parts.{Parts, bytes}
 use Rattle.sshkey_model.specs.Texts.{string}
 use Rattle.sshkey_base.specs.Sink.{Encodes}
-use Rattle.sshkey_base.proofs.PlainParts.{encodes_first, encodes_later}
+use Rattle.sshkey_base.proofs.WrittenLists.{encodes_first, encodes_later}
 use Rattle.sshkey_base.proofs.Writing.{plain_bytes}
 use Rattle.sshkey_public.specs.PublicKeys.{comment_of}
 use Rattle.sshkey_ciphers.specs.Formats.{tag_bytes}

@@ -2,8 +2,7 @@ use Rattle.sshkey_keys.specs.Keys.{key_of}
 use Rattle.sshkey_keys.specs.Signatures.{signature_of}
 use Rattle.std.proofs.lemmas.Result.{err_from_is_err_and}
 use Rattle.sshkey_public.proofs.Verified.{not_made, asked_about, not_made_exactly, asked_exactly}
-use Rattle.sshkey_sshsig.specs.Signing.{signed_parts}
-use Rattle.sshkey_sshsig.specs.SshSignatures.{signer_of, given_of}
+use Rattle.sshkey_sshsig.specs.SshSignatures.{signed_parts, signer_of, given_of}
 use Rattle.sshkey_public.proofs.public_key.verify.judge.Goals as goal
 
 pub returns-in_err-signed-clause-judges : goal.returns-in_err-signed-clause-judges

@@ -1,4 +1,4 @@
-use Rattle.sshkey_base.proofs.PlainParts.{encodes_first, encodes_later}
+use Rattle.sshkey_base.proofs.WrittenLists.{encodes_first, encodes_later}
 use Rattle.sshkey_sshsig.proofs.sshsig.wire.encode_statement.Goals as goal
 
 pub returns-in_err-encode : goal.returns-in_err-encode

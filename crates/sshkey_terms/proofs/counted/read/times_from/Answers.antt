@@ -3,7 +3,7 @@ use Rattle.std.proofs.lemmas.List.{length-map, map-append}
 use Rattle.std.proofs.lemmas.Result.{err_from_is_err_and}
 use Rattle.sshkey_base.specs.Causes.{encoding_cause}
 use Rattle.sshkey_base.proofs.Places.{later_then}
-use Rattle.sshkey_terms.proofs.Gathering.{gathers_end, gathers_full, gathers_more, gathers_refused, gathers_stopped}
+use Rattle.sshkey_terms.proofs.ReadLists.{gathers_end, gathers_full, gathers_more, gathers_refused, gathers_stopped}
 use Rattle.sshkey_terms.proofs.counted.read.times_from.Goals as goal
 
 pub returns-in_err-decode-clause-gives : goal.returns-in_err-decode-clause-gives

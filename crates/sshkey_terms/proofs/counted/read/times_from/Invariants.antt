@@ -1,6 +1,6 @@
 use Rattle.std.proofs.Common.{◌-◌, length, map}
-use Rattle.sshkey_base.specs.Source.{Later}
-use Rattle.sshkey_terms.proofs.Gathering.{Gathers}
+use Rattle.sshkey_base.specs.Reading.{Later}
+use Rattle.sshkey_terms.proofs.ReadLists.{Gathers}
 use Rattle.sshkey_terms.proofs.counted.read.times_from.Given as goal
 
 abbrev pub invariant-reads : goal.invariant-reads

@@ -2,7 +2,7 @@ use Rattle.std.proofs.Common.{length, ap, arith}
 use Rattle.std.proofs.lemmas.List.{length-append}
 use Rattle.std.proofs.lemmas.Result.{err_from_is_err_and}
 use Rattle.sshkey_base.specs.declared.encoding.Error.TheVariants.{Length}
-use Rattle.sshkey_terms.proofs.Filled.{few_refused, few_stopped, filled_reads, inner_refused, inner_stopped, short_refused, short_stopped}
+use Rattle.sshkey_terms.proofs.CountedValues.{few_refused, few_stopped, filled_reads, inner_refused, inner_stopped, short_refused, short_stopped}
 use Rattle.sshkey_terms.proofs.counted.read.values_from.Goals as goal
 
 pub returns-then-before-count-clause-gives : goal.returns-then-before-count-clause-gives

@@ -2,11 +2,10 @@ use Rattle.std.proofs.Common.{◌≡◌, ◌∷◌, [], ◌++◌, map, None, Som
 use Rattle.std.proofs.lemmas.List.{map-append}
 use Rattle.std.proofs.lemmas.Result.{err_from_is_err_and}
 use Rattle.sshkey_base.specs.Causes.{encoding_cause}
-use Rattle.sshkey_base.specs.Source.{announced_len}
-use Rattle.sshkey_base.proofs.FirstValues.{still_begun}
+use Rattle.sshkey_base.specs.Reading.{announced_len}
+use Rattle.sshkey_base.proofs.ReadLists.{still_begun, collects_none, collects_more, collects_refused, collects_end, overruns_more}
 use Rattle.sshkey_base.proofs.Places.{later_none, later_then}
-use Rattle.sshkey_base.proofs.ReadLists.{collects_none, collects_more, collects_refused, collects_end, overruns_more}
-use Rattle.sshkey_terms.proofs.Each.{each_asks, each_stopped, end_stopped, full_needs, full_refused, full_stopped, leaves_less, some_left}
+use Rattle.sshkey_terms.proofs.ReadLists.{each_asks, each_stopped, end_stopped, full_needs, full_refused, full_stopped, leaves_less, some_left}
 use Rattle.sshkey_terms.proofs.counted.to_end.decode_each.Goals as goal
 
 pub returns-in_err-decode-clause-gives : goal.returns-in_err-decode-clause-gives

@@ -1,7 +1,6 @@
 use Rattle.std.proofs.Common.{Option, map}
-use Rattle.sshkey_base.specs.Source.{Later, announced_len}
-use Rattle.sshkey_base.proofs.ReadLists.{Collects, StillOverruns}
-use Rattle.sshkey_base.proofs.FirstValues.{Begun}
+use Rattle.sshkey_base.specs.Reading.{Later, announced_len}
+use Rattle.sshkey_base.proofs.ReadLists.{Collects, StillOverruns, Begun}
 use Rattle.sshkey_terms.proofs.counted.to_end.decode_each.Given as goal
 
 abbrev pub invariant-reads : goal.invariant-reads

@@ -1,5 +1,5 @@
 use Rattle.std.proofs.lemmas.Result.{err_from_is_err_and}
-use Rattle.sshkey_terms.proofs.Measured.{both_measured, first_misfit, second_misfit}
+use Rattle.sshkey_terms.proofs.CountedValues.{both_measured, first_misfit, second_misfit}
 use Rattle.sshkey_terms.proofs.counted.write.counted_len.Goals as goal
 
 pub returns-in_err-encoded_len : goal.returns-in_err-encoded_len

@@ -1,7 +1,7 @@
 use Rattle.std.proofs.Common.{length}
 use Rattle.sshkey_model.specs.Parts.{each}
 use Rattle.sshkey_model.specs.Leaves.{count}
-use Rattle.sshkey_base.proofs.PlainParts.{encodes_first, encodes_later}
+use Rattle.sshkey_base.proofs.WrittenLists.{encodes_first, encodes_later}
 use Rattle.sshkey_terms.proofs.counted.write.encode_counted.Goals as goal
 
 pub returns-in_err-encode : goal.returns-in_err-encode

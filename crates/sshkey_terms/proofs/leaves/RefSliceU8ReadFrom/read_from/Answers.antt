@@ -1,5 +1,5 @@
 use Rattle.sshkey_base.proofs.Places.{later_then}
-use Rattle.sshkey_terms.proofs.Walking.{later_bytes}
+use Rattle.sshkey_terms.proofs.Walks.{later_bytes}
 use Rattle.sshkey_terms.proofs.leaves.RefSliceU8ReadFrom.read_from.Goals as goal
 
 pub returns-clause-later : goal.returns-clause-later

@@ -1,5 +1,5 @@
 use Rattle.std.proofs.lemmas.Result.{err_from_is_err_and}
-use Rattle.sshkey_terms.proofs.Past.{past_second}
+use Rattle.sshkey_terms.proofs.Walks.{past_second}
 use Rattle.sshkey_terms.proofs.then.ThenReadFrom.read_from.Goals as goal
 
 pub returns-in_err-second-clause-past : goal.returns-in_err-second-clause-past

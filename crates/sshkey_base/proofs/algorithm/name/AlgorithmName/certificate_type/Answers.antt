@@ -1,8 +1,8 @@
 use Rattle.std.proofs.Common.{◌≡◌, Some, ap, sym, ◌∙◌, ◌∷◌, append_assoc}
 use Rattle.sshkey_model.specs.Names.{at_sign, cut}
 use Rattle.sshkey_model.specs.CertificateNames.{suffix}
-use Rattle.sshkey_base.specs.AlgorithmName.{IsCutOf}
-use Rattle.sshkey_base.proofs.CertificateTypes.{cut_some, certificate_name-cut}
+use Rattle.sshkey_base.specs.Names.{IsCutOf}
+use Rattle.sshkey_base.proofs.OwnNames.{cut_some, certificate_name-cut}
 use Rattle.sshkey_base.proofs.algorithm.name.AlgorithmName.certificate_type.Goals as goal
 
 pub unwrap-requires : goal.unwrap-requires

@@ -1,5 +1,5 @@
 use Rattle.std.proofs.Common.{arith, ap, length}
-use Rattle.sshkey_base.proofs.CertificateTypes.{certificate_length}
+use Rattle.sshkey_base.proofs.OwnNames.{certificate_length}
 use Rattle.sshkey_base.proofs.algorithm.name.AlgorithmName.certificate_type_len.Goals as goal
 
 pub returns-clause-value : goal.returns-clause-value

@@ -1,4 +1,4 @@
-use Rattle.sshkey_base.proofs.CertificateTypes.{refused}
+use Rattle.sshkey_base.proofs.OwnNames.{refused}
 use Rattle.sshkey_base.proofs.algorithm.name.AlgorithmName.from_certificate_type.Goals as goal
 
 pub returns-in_default-clause-gives : goal.returns-in_default-clause-gives

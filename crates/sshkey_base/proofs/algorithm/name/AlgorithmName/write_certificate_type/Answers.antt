@@ -1,8 +1,8 @@
 use Rattle.std.proofs.Common.{◌≡◌, Some, ap, sym, ◌∙◌}
 use Rattle.sshkey_model.specs.Names.{cut}
-use Rattle.sshkey_base.specs.AlgorithmName.{IsCutOf}
-use Rattle.sshkey_base.proofs.CertificateTypes.{cut_some, flat-name}
-use Rattle.sshkey_base.proofs.PlainParts.{plain_parts}
+use Rattle.sshkey_base.specs.Names.{IsCutOf}
+use Rattle.sshkey_base.proofs.OwnNames.{cut_some, flat-name}
+use Rattle.sshkey_base.proofs.WrittenLists.{plain_parts}
 use Rattle.sshkey_base.proofs.algorithm.name.AlgorithmName.write_certificate_type.Goals as goal
 
 pub unwrap-requires : goal.unwrap-requires

@@ -3,7 +3,7 @@ use Rattle.std.proofs.lemmas.Result.{err_from_is_err_and}
 use Rattle.sshkey_model.specs.Fingerprints.{fingerprint_prefix}
 use Rattle.sshkey_model.specs.Names as names
 use Rattle.sshkey_fingerprints.proofs.Encoded.{no_text}
-use Rattle.sshkey_fingerprints.specs.FingerprintTexts.{IsRefusedText}
+use Rattle.sshkey_fingerprints.specs.Fingerprints.{IsRefusedText}
 use Rattle.sshkey_fingerprints.proofs.fingerprint.text.FingerprintFromStr.from_str.Goals as goal
 
 pub returns-in_err-digest_from : goal.returns-in_err-digest_from

@@ -2,7 +2,7 @@ use Rattle.sshkey_model.specs.Names.{algorithm_from, name_format}
 use Rattle.sshkey_model.specs.Signatures.{signature_at, signature_under}
 use Rattle.sshkey_base.specs.Causes.{cause}
 use Rattle.sshkey_model.specs.Labels.{label_at}
-use Rattle.sshkey_terms.proofs.Chosen.{chosen_stops}
+use Rattle.sshkey_terms.proofs.Records.{chosen_stops}
 use Rattle.sshkey_keys.proofs.Lawful.{name_lawful}
 use Rattle.sshkey_keys.proofs.SignatureReaders.{signature_chosen}
 use Rattle.sshkey_keys.proofs.signature.wire.SignatureDecode.decode.Goals as goal

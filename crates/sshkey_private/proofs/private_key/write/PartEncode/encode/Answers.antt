@@ -3,7 +3,7 @@ use Rattle.std.specs.Int.{w32}
 use Rattle.sshkey_model.specs.Parts.{number, ◌&◌}
 use Rattle.sshkey_model.specs.Texts.{string}
 use Rattle.sshkey_base.specs.Sink.{Encodes}
-use Rattle.sshkey_base.proofs.PlainParts.{encodes_first, encodes_later}
+use Rattle.sshkey_base.proofs.WrittenLists.{encodes_first, encodes_later}
 use Rattle.sshkey_pairs.specs.Keypairs.{keypair_parts}
 use Rattle.sshkey_private.specs.PrivateKeys.{part_of}
 use Rattle.sshkey_private.proofs.private_key.write.PartEncode.encode.Goals as goal

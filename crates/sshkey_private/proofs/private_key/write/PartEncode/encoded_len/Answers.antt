@@ -2,7 +2,7 @@ use Rattle.std.proofs.Common.{arith, List, ℕ, subst, sym, ◌+◌}
 use Rattle.std.specs.Int.{w32}
 use Rattle.sshkey_model.specs.Parts.{BoxesFit, number}
 use Rattle.sshkey_model.specs.Texts.{string}
-use Rattle.sshkey_base.proofs.Measured.{Has, both_have, refused_measure}
+use Rattle.sshkey_base.proofs.Writing.{Has, both_have, refused_measure}
 use Rattle.sshkey_pairs.specs.Keypairs.{keypair_parts}
 use Rattle.sshkey_private.specs.PrivateKeys.{part_of, part_parts}
 use Rattle.sshkey_private.proofs.private_key.write.PartEncode.encoded_len.Goals as goal

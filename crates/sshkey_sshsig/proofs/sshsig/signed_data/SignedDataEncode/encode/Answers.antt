@@ -1,5 +1,5 @@
 use Rattle.std.proofs.Common.{Ok, Err, List, ℕ, subst}
-use Rattle.sshkey_base.proofs.PlainParts.{encodes_first, encodes_later}
+use Rattle.sshkey_base.proofs.WrittenLists.{encodes_first, encodes_later}
 use Rattle.sshkey_base.proofs.Writing.{plain_bytes}
 use Rattle.sshkey_base.specs.Names.{hash_of}
 use Rattle.sshkey_base.specs.Sink.{Encodes}

@@ -3,8 +3,8 @@ use Rattle.sshkey_base.specs.Names.{hash_of}
 use Rattle.sshkey_model.specs.Parts.{BoxesFit, bytes}
 use Rattle.sshkey_model.specs.SshSignatures.{signature_magic, signed_data}
 use Rattle.sshkey_model.specs.Texts.{string}
-use Rattle.sshkey_base.proofs.Measured.{Has, both_have, refused_measure}
-use Rattle.sshkey_sshsig.proofs.Measured.{magic_has}
+use Rattle.sshkey_base.proofs.Writing.{Has, both_have, refused_measure}
+use Rattle.sshkey_sshsig.proofs.SshSignatures.{magic_has}
 use Rattle.sshkey_sshsig.proofs.sshsig.signed_data.SignedDataEncode.encoded_len.Goals as goal
 
 pub returns-in_err-string_len-clause-measures : goal.returns-in_err-string_len-clause-measures

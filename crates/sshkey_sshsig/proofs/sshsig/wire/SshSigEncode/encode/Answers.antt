@@ -1,6 +1,6 @@
 use Rattle.std.proofs.Common.{Ok}
 use Rattle.std.specs.Int.{w32}
-use Rattle.sshkey_base.proofs.PlainParts.{encodes_later}
+use Rattle.sshkey_base.proofs.WrittenLists.{encodes_later}
 use Rattle.sshkey_base.proofs.Writing.{plain_bytes}
 use Rattle.sshkey_keys.specs.Keys.{key_of}
 use Rattle.sshkey_model.specs.Keys.{normal_key}

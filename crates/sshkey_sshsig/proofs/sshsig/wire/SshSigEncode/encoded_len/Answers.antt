@@ -2,8 +2,8 @@ use Rattle.std.proofs.Common.{arith}
 use Rattle.sshkey_model.specs.Parts.{BoxesFit, bytes}
 use Rattle.sshkey_model.specs.SshSignatures.{signature_magic, normal_ssh_signature}
 use Rattle.sshkey_sshsig.specs.SshSignatures.{ssh_signature_of}
-use Rattle.sshkey_base.proofs.Measured.{both_have, refused_measure}
-use Rattle.sshkey_sshsig.proofs.Measured.{magic_has}
+use Rattle.sshkey_base.proofs.Writing.{both_have, refused_measure}
+use Rattle.sshkey_sshsig.proofs.SshSignatures.{magic_has}
 use Rattle.sshkey_sshsig.proofs.sshsig.wire.SshSigEncode.encoded_len.Goals as goal
 
 pub returns-in_err-encoded_len_prefixed-clause-measures : goal.returns-in_err-encoded_len_prefixed-clause-measures

@@ -9,7 +9,7 @@ use Rattle.sshkey_base.proofs.Places.{later_then}
 use Rattle.sshkey_base.proofs.Steps.{refused_later}
 use Rattle.sshkey_model.specs.Counted.{NeedsCounted, OverrunsCounted, values_at}
 use Rattle.sshkey_terms.proofs.Lawful.{called_chosen}
-use Rattle.sshkey_terms.proofs.Chosen.{chosen_refused, chosen_stopped, chosen_stops}
+use Rattle.sshkey_terms.proofs.Records.{chosen_refused, chosen_stopped, chosen_stops}
 use Rattle.sshkey_terms.proofs.counted.read.CountedDecode.decode.Goals as goal
 
 pub returns-in_err-count-clause-gives : goal.returns-in_err-count-clause-gives

@@ -1,4 +1,4 @@
-use Rattle.sshkey_terms.proofs.Walking.{later_bytes}
+use Rattle.sshkey_terms.proofs.Walks.{later_bytes}
 use Rattle.sshkey_userauth.proofs.request.part.HasSignatureReadFromRefSliceU8.read_from.Goals as goal
 
 pub returns-clause-later : goal.returns-clause-later

@@ -1,5 +1,5 @@
 use Rattle.std.proofs.Common.{List, ℕ, Ok, subst}
-use Rattle.sshkey_base.proofs.PlainParts.{encodes_later}
+use Rattle.sshkey_base.proofs.WrittenLists.{encodes_later}
 use Rattle.sshkey_base.proofs.Writing.{plain_bytes}
 use Rattle.sshkey_base.specs.Sink.{Encodes}
 use Rattle.sshkey_model.specs.Parts.{bytes, ◌&◌}

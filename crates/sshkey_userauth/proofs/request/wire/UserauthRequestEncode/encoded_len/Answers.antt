@@ -1,5 +1,5 @@
 use Rattle.std.proofs.Common.{arith}
-use Rattle.sshkey_base.proofs.Measured.{refused_measure}
+use Rattle.sshkey_base.proofs.Writing.{refused_measure}
 use Rattle.sshkey_model.specs.Parts.{BoxesFit}
 use Rattle.sshkey_userauth.specs.Requests.{userauth_request}
 use Rattle.sshkey_userauth.specs.Values.{request_of}

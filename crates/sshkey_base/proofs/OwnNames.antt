@@ -1,18 +1,59 @@
--- Private-use names in certificates.
-use Rattle.std.proofs.Common.{◌≡◌, ◌≢◌, ℕ, Option, Some, None, IsSome, List, [], ◌∷◌, ◌++◌, length, nat_le, nat_lt, Bool, ◌&&◌, true, false, refl, sym, ap, subst, ◌∙◌, rules, append_assoc, arith, ◌+◌, ◌≤◌, inl, inr}
-use Rattle.std.proofs.lemmas.Bool.{and_parts, and_right, both_ways, leb-true, le-leb, lt-leb, lt-ltb, le-ltb, cases_lt}
-use Rattle.std.proofs.lemmas.List.{append_cancel_right, length-append}
+-- Where a text is cut at its first at sign.
+use Rattle.std.proofs.Common.{◌≡◌, ◌≢◌, ℕ, ◌+◌, ◌<◌, Option, Some, None, MatchOption, List, [], ◌∷◌, ◌++◌, length, get_or, refl, ap, ◌∙◌, arith, add-one, zero, suc, ◌≤◌, Bool, true, false, nat_lt, sym, IsSome, nat_le, ◌&&◌, subst, rules, append_assoc, inl, inr}
+use Rattle.std.proofs.lemmas.Bool.{ne_eqb, lt-ltb, le-ltb, and_right, and_parts, both_ways, leb-true, le-leb, lt-leb, cases_lt}
 use denote.Ref.{Bor}
-use Rattle.sshkey_model.specs.Parts.{bytes, ◌&◌, flat}
-use Rattle.sshkey_model.specs.Names.{Other, at_sign, cut, are_ascii, is_split, is_own_name}
+use Rattle.sshkey_model.specs.Names.{at_sign, cut, are_ascii, Other, is_split, is_own_name}
 use Rattle.sshkey_model.specs.CertificateNames.{suffix, with_suffix, certificate_name}
-use Rattle.sshkey_model.proofs.CertificateNameReaders.{cut_parts, cut_left, own_cut}
-use Rattle.sshkey_base.specs.AlgorithmName.{IsCutOf, AreNameParts, IsNoCertificateType, IsNoCertificateName, HasCertificateName, are_own_parts}
+use Rattle.sshkey_model.proofs.CertificateNameReaders.{suffix_before, cut_parts, cut_left, own_cut}
+use Rattle.sshkey_base.specs.Names.{IsCutOf, AreNameParts, IsNoCertificateType, IsNoCertificateName, HasCertificateName, are_own_parts}
+use Rattle.std.specs.Bool.{MatchBool}
+use Rattle.std.specs.Str.{IsAscii, IsNotAscii}
+use Rattle.std.proofs.lemmas.List.{append_cancel_right, length-append}
+use Rattle.sshkey_model.specs.Parts.{bytes, ◌&◌, flat}
 use Rattle.sshkey_base.specs.Causes.{cause}
 use Rattle.sshkey_base.specs.declared.error.Error.{Error}
 use Rattle.sshkey_base.specs.declared.error.Error.TheVariants as wide
 use Rattle.sshkey_base.specs.declared.encoding.Error.TheVariants as encoding
-use Rattle.sshkey_base.proofs.AtSigns.{cut-at, cut-suffixed}
+
+-- no at sign stands in the text
+abbrev pub HasNone : List ℕ → Type 0
+HasNone t = (i : ℕ) → i < length t → get_or t i 0 ≢ at_sign
+
+pub cut-none : (t : List ℕ) → HasNone t → cut t ≡ None
+cut-none [] none = refl
+cut-none (c ∷ t) none =
+    let later : cut t ≡ None = cut-none t (λ i within same. none (i + 1) (omega arith) (rw add-one same)) in
+    rw (ne_eqb c at_sign (none 0 (omega arith)), later) refl
+
+pub cut-at : (l r : List ℕ) → cut l ≡ None → cut (l ++ at_sign ∷ r) ≡ Some (l, r)
+cut-at l r none = (suffix_before l r none).0
+
+pub cut-suffixed : (l r : List ℕ) → cut l ≡ None → cut (l ++ suffix ++ at_sign ∷ r) ≡ Some (l ++ suffix, r)
+cut-suffixed l r none = (suffix_before l r none).1
+
+-- what `split_once` says of its result
+pub is_cut : (t : List ℕ) (result : Option (Bor (List ℕ) × Bor (List ℕ))) → MatchOption result (HasNone t) (λ p. (t ≡ p.0.now ++ (at_sign ∷ p.1.now)) × HasNone p.0.now) → IsCutOf t result
+is_cut t None none = cut-none t none
+is_cut t (Some p) parts = ap cut parts.0 ∙ cut-at p.0.now p.1.now (cut-none p.0.now parts.1)
+
+-- Tests of private-use names.
+
+are_ascii-true : (t : List ℕ) → IsAscii t → are_ascii t ≡ true
+are_ascii-true [] ascii = refl
+are_ascii-true (c ∷ t) ascii =
+    let first : nat_lt c 0x80 ≡ true = lt-ltb c 0x80 (ascii 0) in
+    rw first (are_ascii-true t (λ i. rw add-one at (ascii (i + 1))))
+
+are_ascii-false : (t : List ℕ) (i : ℕ) → 128 ≤ get_or t i 0 → are_ascii t ≡ false
+are_ascii-false [] i high = absurd (omega arith)
+are_ascii-false (c ∷ t) zero high = rw (le-ltb c 0x80 high) refl
+are_ascii-false (c ∷ t) (suc i) high = and_right (nat_lt c 0x80) (are_ascii t) (are_ascii-false t i high)
+
+pub are_ascii_is : (t : List ℕ) (b : Bool) → MatchBool b (IsAscii t) (IsNotAscii t) → b ≡ are_ascii t
+are_ascii_is t true ascii = sym (are_ascii-true t ascii)
+are_ascii_is t false other = sym (are_ascii-false t other.0 other.1)
+
+-- Private-use names in certificates.
 
 -- a text without an at sign is no name
 pub not_split : (t : List ℕ) → cut t ≡ None → is_own_name t ≡ false

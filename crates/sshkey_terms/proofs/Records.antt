@@ -1,18 +1,52 @@
+-- A record that is read as a term: where its plain reader is the term's and then a test of the
+-- parts, what a call says of the term it says of the record.
+use Rattle.std.proofs.Common.{◌≡◌, ℕ, List, Result, Ok, Err, IsErrAnd, refl, sym, ◌∙◌}
+use Rattle.sshkey_model.specs.Reading.{Fault, Front, checked_at}
+use Rattle.sshkey_base.specs.Causes.{Cause, Faulty}
+use Rattle.sshkey_base.specs.Reading.{Source, Reads, IsRefused, Gives, Asks}
+use Rattle.sshkey_base.proofs.Steps.{refused_first, refused_later, asks_later}
+use Rattle.sshkey_terms.proofs.Lawful.{IsMapped, IsChosen}
+use Rattle.sshkey_terms.proofs.Stopping.{mapped_stopped, mapped_stops, handed_stops, later_past, later_ran, step_stopped}
+use Rattle.sshkey_base.specs.Judgements.{AnswersAlways}
+use Rattle.sshkey_base.specs.Formats.{Stopped, StopsBy}
+use Rattle.sshkey_model.specs.Overruns.{AreLengths, OverrunsThen}
+use Rattle.sshkey_base.proofs.Stopping.{not_taken, read_past, judged_stops, same_stops}
+use Rattle.sshkey_model.specs.Needs.{NeedsThen}
+use Rattle.sshkey_base.proofs.Places.{later_none, later_then}
+
+pub mapped_reads : {X Y Z W : Type 0} (parts : X → Y) (read : Front Y) (s t : Source) (x : X) (form : Y → Result Z Fault) (record_at : Front Z) (means : W → Z) (w : W) → Reads parts read s x t → IsMapped record_at form read → form (parts x) ≡ Ok (means w) → Reads means record_at s w t
+mapped_reads parts read s t x form record_at means w h same is = record { value = rw (same.same s.left, h.value, is) refl; missing = h.missing; outer = h.outer }
+
+pub mapped_refused : {Y Z : Type 0} (read : Front Y) (m : ℕ) (c : Cause) (b : List ℕ) (form : Y → Result Z Fault) (record_at : Front Z) → IsMapped record_at form read → IsRefused m c (read b) → IsRefused m c (record_at b)
+mapped_refused read m c b form record_at same h = rw (same.same b) (refused_first m c (read b) _ h)
+
+-- what `?` hands on
+pub mapped_handed : {Y Z W E : Type 0} (read : Front Y) (s t : Source) (form : Y → Result Z Fault) (record_at : Front Z) (means : W → Z) (why : E → Cause) (r : Result W E) (e : E) → IsErrAnd r (λ x. x ≡ e) → IsMapped record_at form read → IsRefused s.missing (why e) (read s.left) → Gives means why record_at s r t
+mapped_handed read s t form record_at means why (Ok w) e is same h = absurd is
+mapped_handed read s t form record_at means why (Err x) e is same h = rw is (mapped_refused read s.missing (why e) s.left form record_at same h)
+
+pub ruleset mapped = (mapped_reads, mapped_refused, mapped_handed, mapped_stopped, mapped_stops)
+
+-- Parts that were read, and then the test of them.
+
+-- the test refuses
+pub tested_refused : {X Y Z : Type 0} (parts : X → Y) (read : Front Y) (s t : Source) (x : X) (form : Y → Result Z Fault) (record_at : Front Z) (c : Cause) (f : Fault) → Reads parts read s x t → IsMapped record_at form read → form (parts x) ≡ Err f → c ≡ Faulty f → IsRefused s.missing c (record_at s.left)
+tested_refused parts read s t x form record_at c f h same refused is = record { fault = λ other sound. rw (same.same s.left, h.value, refused) is }
+
+pub tested_stopped : {X Y Z : Type 0} (parts : X → Y) (read : Front Y) (needs overruns : List ℕ → ℕ → Type 0) (s t : Source) (x : X) (form : Y → Result Z Fault) (record_at : Front Z) (c : Cause) (f : Fault) → Reads parts read s x t → IsMapped record_at form read → form (parts x) ≡ Err f → AreLengths read overruns → Stopped c record_at needs overruns s
+tested_stopped parts read needs overruns s t x form record_at c f h same refused lengths = record {
+  takes = λ ok. not_taken (record_at s.left) f (rw (same.same s.left, h.value, refused) refl) ok;
+  past = λ o. read_past parts read overruns s t x lengths h o;
+}
+
+-- the test is a call of its own
+pub tested_stops : {X Y Z W E : Type 0} (parts : X → Y) (means : W → Z) (why : E → Cause) (read : Front Y) (form : Y → Result Z Fault) (record_at : Front Z) (needs overruns : List ℕ → ℕ → Type 0) (s t : Source) (x : X) (r : Result W E) → IsMapped record_at form read → AreLengths read overruns → Reads parts read s x t → AnswersAlways means why (form (parts x)) r → StopsBy why record_at needs overruns s r
+tested_stops parts means why read form record_at needs overruns s t x r m lengths h answer = same_stops why (checked_at form read) record_at needs overruns s r (λ b. sym (m.same b)) (judged_stops parts means why read form needs overruns s t x r lengths h answer)
+
+pub ruleset tested = (tested_refused, tested_stopped)
+
 -- A record that its first value calls for: what the call says that reads that value, and what the
 -- call says that reads the record after it, is said of the whole.
-use Rattle.std.proofs.Common.{◌≡◌, ℕ, List, IsErrAnd, Result, Ok, Err, ◌∙◌}
-use Rattle.sshkey_model.specs.Reading.{Front}
-use Rattle.sshkey_base.specs.Causes.{Cause}
-use Rattle.sshkey_base.specs.Needs.{Asks}
-use Rattle.sshkey_model.specs.Needs.{NeedsThen}
-use Rattle.sshkey_base.specs.Reading.{Reads, IsRefused, Gives}
-use Rattle.sshkey_base.specs.Source.{Source}
-use Rattle.sshkey_base.specs.Stops.{Stopped, StopsBy}
-use Rattle.sshkey_model.specs.Overruns.{OverrunsThen, AreLengths}
-use Rattle.sshkey_base.proofs.Places.{later_none, later_then}
-use Rattle.sshkey_base.proofs.Steps.{refused_first, refused_later, asks_later}
-use Rattle.sshkey_terms.proofs.Lawful.{IsChosen}
-use Rattle.sshkey_terms.proofs.Stopping.{handed_stops, later_past, later_ran, step_stopped}
 
 -- ---- the first value is refused
 

@@ -1,21 +1,55 @@
--- The term of SSH signatures spells what PROTOCOL.sshsig lays out.
-use Rattle.std.proofs.Common.{◌≡◌, ℕ, List, true, length, refl, subst}
+-- How many bytes the magic ones are.
+use Rattle.std.proofs.Common.{refl, ◌≡◌, ℕ, List, true, length, subst, ◌<◌, ◌^◌}
+use Rattle.sshkey_model.specs.Parts.{bytes, flat, BoxesFit, Any, number, box, ◌&◌, Fits}
+use Rattle.sshkey_model.specs.SshSignatures.{signature_magic, SshSignature, IsSshSignature, HasSshSignaturePlaces, ssh_signature, normal_ssh_signature}
+use Rattle.sshkey_base.proofs.Writing.{Has}
+use Rattle.sshkey_model.proofs.NameReaders.{hash_checks}
+use Rattle.sshkey_model.specs.Formats.{IsFormat}
+use Rattle.sshkey_model.specs.Needs.{NoNeed}
+use Rattle.sshkey_model.specs.Names.{hash_format}
+use Rattle.sshkey_base.proofs.Lawful.{label_lawful, number32_lawful, string_lawful, text_lawful}
+use Rattle.sshkey_terms.proofs.Lawful.{boxed_lawful, literal_lawful, tested_lawful, then_lawful}
+use Rattle.sshkey_keys.proofs.Lawful.{key_lawful, signature_lawful}
+use Rattle.sshkey_sshsig.specs.SshSignatureFormats.{magic_format, version_from, version_format, namespace_from, namespace_format, opening_format, statement_format, ssh_signature_of_parts, ssh_signature_format, SshSignatureOpening, ssh_signature_with, SpellsSshSignature, ssh_signature_value_at}
 use Rattle.std.specs.Prelude.{nat_lt}
 use Rattle.std.specs.Int.{w32}
-use Rattle.sshkey_model.specs.Parts.{Any, bytes, number, box, ◌&◌, flat, Fits}
 use Rattle.sshkey_model.specs.Grammar.{IsGrammar, IsSpelled, spelled}
 use Rattle.sshkey_model.specs.Reading.{Version, Namespace}
 use Rattle.sshkey_model.specs.Keys.{Head, Plain, IsKey, HasKeyPlaces, key}
-use Rattle.sshkey_model.specs.SshSignatures.{SshSignature, IsSshSignature, HasSshSignaturePlaces, ssh_signature, normal_ssh_signature, signature_magic}
 use Rattle.sshkey_model.proofs.Grammars.{all_end, ends}
-use Rattle.sshkey_model.proofs.Trees.{IsTree, Alike, regrouped, leaf_tree, open_tree, then_tree, box_tree, kept_tree, made_tree, determined, read_back}
+use Rattle.sshkey_model.proofs.Trees.{IsTree, Alike, regrouped, leaf_tree, open_tree, then_tree, box_tree, kept_tree, made_tree, determined, read_back, spelled_alike}
 use Rattle.sshkey_model.specs.Leaves.{string_format}
-use Rattle.sshkey_model.specs.Names.{hash_format}
-use Rattle.sshkey_base.proofs.Lawful.{string_lawful}
-use Rattle.sshkey_sshsig.specs.SshSignatures.{statement}
-use Rattle.sshkey_sshsig.specs.SshSignatureFormats.{SshSignatureOpening, magic_format, version_format, opening_format, namespace_format, ssh_signature_with}
-use Rattle.sshkey_sshsig.specs.SshSignatureReaders.{SpellsSshSignature, ssh_signature_value_at}
-use Rattle.sshkey_sshsig.proofs.Lawful.{magic_lawful, version_lawful, opening_lawful, namespace_lawful, hash_lawful, ssh_signature_lawful}
+use Rattle.sshkey_sshsig.specs.SshSignatures.{statement, digest_parts, ssh_signature_of}
+use Rattle.sshkey_sshsig.specs.declared.sshsig.SshSig.{SshSig}
+
+pub magic_has : Has (bytes signature_magic) 6
+unfolding flat BoxesFit
+magic_has = (tt, refl)
+
+-- The format of SSH signatures is lawful.
+
+pub magic_lawful : IsFormat magic_format
+magic_lawful = literal_lawful signature_magic
+
+pub version_lawful : IsFormat version_format
+version_lawful = tested_lawful version_from number32_lawful
+
+pub namespace_lawful : IsFormat namespace_format
+namespace_lawful = tested_lawful namespace_from text_lawful
+
+pub hash_lawful : IsFormat hash_format
+hash_lawful = label_lawful NoNeed hash_checks
+
+pub opening_lawful : IsFormat opening_format
+opening_lawful = then_lawful magic_lawful (then_lawful version_lawful (boxed_lawful key_lawful))
+
+pub statement_lawful : IsFormat statement_format
+statement_lawful = then_lawful namespace_lawful (then_lawful string_lawful (then_lawful hash_lawful (boxed_lawful signature_lawful)))
+
+pub ssh_signature_lawful : IsFormat ssh_signature_format
+ssh_signature_lawful = tested_lawful ssh_signature_of_parts (then_lawful opening_lawful statement_lawful)
+
+-- The term of SSH signatures spells what PROTOCOL.sshsig lays out.
 
 pub ssh_signature_grammar : IsGrammar SpellsSshSignature ssh_signature_value_at
 ssh_signature_grammar = all_end ssh_signature_lawful.grammar (λ b. refl)
@@ -50,3 +84,10 @@ ssh_signature_normal f is fits = ssh_signature_tree.again (f, Plain) (record { i
 
 -- the lemmas of the laws, which their functions name together
 pub ruleset laws = (determined, read_back, ssh_signature_grammar, ssh_signature_normal)
+
+-- What a signature that was read signs has no part that is too long.
+
+-- its namespace, its reserved bytes and its hash's name fitted where they were read
+pub parts_fit : (f : SshSig) (bytes digest : List ℕ) → SpellsSshSignature (ssh_signature_of f) bytes → length digest < 2 ^ 32 → BoxesFit (digest_parts f digest)
+unfolding BoxesFit flat
+parts_fit f bytes digest spelled short = let s = (spelled_alike ssh_signature_tree (ssh_signature_of f) bytes).0 spelled in (tt, (s.fits.boxes.1.1.1.0, (s.fits.boxes.1.1.1.1.0, (s.fits.boxes.1.1.1.1.1.0, (short, tt)))))

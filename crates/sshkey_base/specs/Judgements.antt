@@ -1,7 +1,20 @@
--- What a call answers that judges all that it is given, or finds what a text names.
-use Rattle.std.specs.Prelude.{◌≡◌, Result, Ok, Err, IsOkAnd, IsErrAnd, MatchResult, ◌≢◌, IsOk}
+-- What an answer says of what was given, both ways.
+use Rattle.std.specs.Prelude.{◌≢◌, ℕ, List, Result, Ok, Err, ◌≡◌, IsOkAnd, IsErrAnd, MatchResult, IsOk}
+use Rattle.sshkey_base.specs.declared.error.Error.{Error}
+use Rattle.sshkey_base.specs.declared.error.Error.TheVariants.{Memory}
 use Rattle.sshkey_model.specs.Reading.{Fault, Label}
 use Rattle.sshkey_base.specs.Causes.{Cause, NoMemory, Faulty}
+
+-- Out of memory aside, Ok exactly if this holds.
+abbrev pub AcceptsExactly : {T : Type 0} → Type 0 → Result T Error → Type 0
+AcceptsExactly Holds (Ok x) = Holds
+AcceptsExactly Holds (Err e) = e ≢ Memory → Holds → ⊥
+
+-- All the bytes spell some value.
+abbrev pub SpellsSome : {Y : Type 0} → (Y → List ℕ → Type 0) → List ℕ → Type 0
+SpellsSome {Y} Spells bytes = (y : Y) × Spells y bytes
+
+-- What a call answers that judges all that it is given, or finds what a text names.
 
 -- The plain reader's value, unless memory was refused; and its fault, whatever memory there is.
 abbrev pub Answers : {X Y E : Type 0} → (X → Y) → (E → Cause) → Result Y Fault → Result X E → Type 0
