@@ -85,17 +85,3 @@ class Unnamed:
                 for name, lines in definitions(read(path)).items():
                     if has_edges(lines) and name not in named:
                         yield f"{crate} {module}", name
-
-    def shrink(self):
-        """Takes out of the list what is named by now."""
-        kept = []
-        for line in read(self.path).splitlines():
-            if line and not line.startswith("#"):
-                place, names = line.split(": ")
-                lacks = not os.path.isfile(f"{self.root}/crates/{place}/src/examples.rt")
-                left = [it for it in names.split() if (place, it) in self.found or (it == "examples.rt" and lacks)]
-                line = f"{place}: {' '.join(left)}" if left else None
-            if line is not None:
-                kept.append(line)
-        with open(self.path, "w", encoding="utf-8") as file:
-            file.write("\n".join(kept) + "\n")

@@ -77,35 +77,3 @@ def choose(crates, commit):
         (choice.tried if fits else choice.left).append(it)
         most = max(0, most - it.seconds) if fits else most
     return choice
-
-
-# ---- the self-check
-
-
-def questions():
-    """What has to hold of the choice among crates that are made up, and whether it does."""
-    below = [Candidate(f"below{number}", 200, 1000, BELOW) for number in range(4)]
-    same = [Candidate(f"same{number}", 5, 10, NONE) for number in range(16)]
-    crates = [*below, Candidate("own", 40, 250, OWN), *same]
-    choices = [choose(crates, f"commit {number}") for number in range(64)]
-
-    def names(*lists):
-        return {it.name for found in lists for it in found}
-
-    yield "own files come first", all(it.tried[0].name == "own" for it in choices)
-    yield "no more is tried than fits", all(sum(one.seconds for one in it.tried) <= MOST for it in choices)
-    yield "what does not fit is left", all(len(it.left) == 2 and names(it.left) < names(below) for it in choices)
-    yield "each is left at some commit, and tried at another", names(below) == names(*(it.left for it in choices)) == names(
-        *([one for one in it.tried if one in below] for it in choices)
-    )
-    yield "an eighth of what did not change is tried", all(len(it.trusted) == 14 for it in choices)
-    yield "each of these is tried at some commit", all(any(one in it.tried for it in choices) for one in same)
-    yield "no crate is lost", all(names(it.tried, it.trusted, it.left) == names(crates) for it in choices)
-    yield "the same commit draws the same", choose(crates, "commit 1") == choices[1]
-    dear = Candidate("dear", 900, 2 * MOST, OWN)
-    yield "what alone does not fit is tried alone", choose([dear, *below], "").tried == [dear]
-    own = Candidate("definitions:own", 60, OF_DEFINITIONS, OWN)
-    other = Candidate("definitions:other", 1, 20, OWN)
-    yield "definitions have their own seconds", len(choose([own, other], "").tried) == 1
-    kept = [Candidate(it.name, it.count, 0, it.change) for it in below]
-    yield "what was refused here before takes no time", names(choose([dear, *kept], "").tried) == names([dear, *kept])

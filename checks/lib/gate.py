@@ -83,7 +83,7 @@ class Gate:
     def __init__(self):
         self.passed = self.failed = 0
         self.left_out, self.lock, self.is_stopped = [], threading.Lock(), False
-        self.began, self.watcher = time.monotonic(), None
+        self.began = time.monotonic()
         self.room = tempfile.mkdtemp(prefix="rafendilo-")
         # for programs that sshd starts as another user
         os.chmod(self.room, 0o711)
@@ -151,21 +151,11 @@ class Gate:
 
     def finish(self):
         """Says what was left out and what passed, and returns the status."""
-        if self.watcher:
-            self.watcher.terminate()
-            self.watcher.wait()
         used = os.times()
         say(f"{self.minutes()} minutes, {used.children_user + used.children_system:.0f} processor seconds")
         say(f"left out: {'; '.join(self.left_out)}" if self.left_out else "nothing was left out")
         say(f"{self.passed} passed, {self.failed} failed")
         return 1 if self.failed or not self.passed else 0
-
-    def watch(self):
-        """Has the seconds of each crate counted, which are printed at the end."""
-        words = ["checks/lib/seconds", str(os.getpid())]
-        with self.lock:
-            self.watcher = subprocess.Popen(words, cwd=ROOT, env=self.env, start_new_session=True)
-            self.waited_for.add(self.watcher.pid)
 
     def take_others(self):
         """Takes processes that have ended and whose parents have, as those of hundreds of logins."""

@@ -127,15 +127,6 @@ class Tried:
         seconds = before.seconds if before and before.seconds else estimate(len(trial.blocks), trial.is_of_definitions)
         return Candidate(trial.name(), len(trial.blocks), 0 if trial.passed else seconds, change)
 
-    def questions(self, trial):
-        """What has to hold of the rows that this trial may have, and whether it does."""
-        before, now = self.rows, self.row(trial)
-        found = {"no row": None, "another own sum": Row("", now.all, 0), "another sum": Row(now.own, "", 0), "the tree's sums": now}
-        for (says, row), change in zip(found.items(), (OWN, OWN, BELOW, NONE)):
-            self.rows = {trial.name(): row} if row else {}
-            yield f"{says} in checks/tried.txt: {change} changed", self.candidate(trial).change == change
-        self.rows = before
-
     def note(self, rows, refused):
         """Writes down of which of these names all edits were refused. What says so of another of them is taken away. Where nothing
         changed, a line stays."""

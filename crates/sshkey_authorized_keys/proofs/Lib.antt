@@ -1,4 +1,4 @@
 pub mod Dividers
 pub mod Entries
 pub mod OptionEnds
-pub mod OpenSshOptions
+pub mod OptionCuts

@@ -6,7 +6,7 @@ use Rattle.std.specs.Result.{result_ok}
 use Rattle.sshkey_base.specs.declared.error.Error.{Error}
 use Rattle.sshkey_authorized_keys.specs.Options.{YieldsOption}
 use Rattle.sshkey_authorized_keys.specs.declared.openssh_option.OpenSshOption.{OpenSshOption}
-use Rattle.sshkey_authorized_keys.proofs.OpenSshOptions.{shorter}
+use Rattle.sshkey_authorized_keys.proofs.OptionCuts.{shorter}
 use Rattle.sshkey_entries.specs.OptionItems.{IsNoOption, IsOptionAt, KeyOption, without_commas}
 use Rattle.sshkey_calls.specs.Rooms.{IsAtFront}
 use Rattle.sshkey_calls.proofs.Rooms.{give_one, none_given}

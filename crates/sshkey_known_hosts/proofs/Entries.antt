@@ -27,7 +27,7 @@ more c piece next (second ∷ pieces) = ap (λ (l : List ℕ). piece ++ (c ∷ l
 
 -- the first piece, and another after some
 pub join_one : (c i : ℕ) (pieces : List (List ℕ)) (next : List ℕ) → i < length pieces → i ≡ 0 → get_or pieces i next ≡ next → join_with_byte c (take (i + 1) pieces) ≡ next
-join_one c i pieces next l zero is = ap (join_with_byte c) (take_more pieces i next l ∙ (λ j. take (zero j) pieces ++ (is j ∷ [])))
+join_one c i pieces next l start is = ap (join_with_byte c) (take_more pieces i next l ∙ (λ j. take (start j) pieces ++ (is j ∷ [])))
 
 pub join_more : (c i : ℕ) (pieces : List (List ℕ)) (next : List ℕ) → i < length pieces → 0 < i → get_or pieces i next ≡ next → join_with_byte c (take (i + 1) pieces) ≡ join_with_byte c (take i pieces) ++ (c ∷ next)
 join_more c i pieces next l some is = ap (join_with_byte c) (take_more pieces i next l ∙ ap (λ (x : List ℕ). take i pieces ++ (x ∷ [])) is) ∙ after (take i pieces) (omega (arith, length-take i pieces))
@@ -49,10 +49,10 @@ module _ (c i : ℕ) (pieces : List (List ℕ)) (front next old mid new : List �
 
   -- or by the first piece
   pub begun : i ≡ 0 → mid ≡ old → new ≡ front ++ join_with_byte c (take (i + 1) pieces)
-  begun zero same =
+  begun start same =
       added
-      ∙ (λ j. (same ∙ was ∙ ap (λ (n : ℕ). front ++ join_with_byte c (take n pieces)) zero ∙ append-nil front) j ++ next)
-      ∙ ap (λ (t : List ℕ). front ++ t) (sym (join_one c i pieces next l zero is))
+      ∙ (λ j. (same ∙ was ∙ ap (λ (n : ℕ). front ++ join_with_byte c (take n pieces)) start ∙ append-nil front) j ++ next)
+      ∙ ap (λ (t : List ℕ). front ++ t) (sym (join_one c i pieces next l start is))
 
 -- When a line is an entry of known_hosts.
 

@@ -1,6 +1,6 @@
 use Rattle.std.proofs.Common.{◌∷◌, ◌++◌, [], Some, subst, refl}
 use Rattle.sshkey_authorized_keys.specs.Options.{YieldsOption, key_option_of}
-use Rattle.sshkey_authorized_keys.proofs.OpenSshOptions.{after_one, after_all, some_before, no_options}
+use Rattle.sshkey_authorized_keys.proofs.OptionCuts.{after_one, after_all, some_before, no_options}
 use Rattle.sshkey_authorized_keys.proofs.openssh_options.find_option.Goals as goal
 
 pub loop-option-preserved : goal.loop-option-preserved

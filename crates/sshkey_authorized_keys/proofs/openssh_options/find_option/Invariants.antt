@@ -1,7 +1,7 @@
 use Rattle.std.proofs.Common.{List}
 use Rattle.sshkey_entries.specs.OptionItems.{KeyOption, HasKeyOptions}
 use Rattle.sshkey_authorized_keys.specs.Options.{FindsNamed}
-use Rattle.sshkey_authorized_keys.proofs.OpenSshOptions.{After}
+use Rattle.sshkey_authorized_keys.proofs.OptionCuts.{After}
 use Rattle.sshkey_authorized_keys.proofs.openssh_options.find_option.Given as goal
 
 -- what was read, what was found in it, and that the rest is options where all of it is

@@ -1,6 +1,6 @@
 use Rattle.std.proofs.Common.{sym, ◌∙◌, arith}
 use Rattle.sshkey_authorized_keys.specs.Options.{is_escape}
-use Rattle.sshkey_authorized_keys.proofs.OpenSshOptions.{none_more}
+use Rattle.sshkey_authorized_keys.proofs.OptionCuts.{none_more}
 use Rattle.sshkey_authorized_keys.proofs.option_syntax.escape_place.Goals as goal
 
 pub loop-index-init : goal.loop-index-init

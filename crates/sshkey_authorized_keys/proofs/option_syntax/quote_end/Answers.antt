@@ -1,6 +1,6 @@
 use Rattle.std.proofs.Common.{sym, ◌∙◌, arith}
 use Rattle.sshkey_entries.specs.Fields.{is_plain_quote}
-use Rattle.sshkey_authorized_keys.proofs.OpenSshOptions.{none_more}
+use Rattle.sshkey_authorized_keys.proofs.OptionCuts.{none_more}
 use Rattle.sshkey_authorized_keys.proofs.option_syntax.quote_end.Goals as goal
 
 pub loop-place-init : goal.loop-place-init

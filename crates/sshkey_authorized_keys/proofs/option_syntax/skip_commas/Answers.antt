@@ -1,7 +1,7 @@
 use Rattle.std.proofs.Common.{◌∙◌, ap, not, position, sym}
 use Rattle.sshkey_entries.specs.Items.{is_comma}
 use Rattle.sshkey_entries.proofs.Fronts.{left_from, left_place, nothing_left}
-use Rattle.sshkey_authorized_keys.proofs.OpenSshOptions.{comma_ascii}
+use Rattle.sshkey_authorized_keys.proofs.OptionCuts.{comma_ascii}
 use Rattle.sshkey_authorized_keys.proofs.option_syntax.skip_commas.Goals as goal
 
 pub range_from-requires : goal.range_from-requires

@@ -1,6 +1,6 @@
 use Rattle.std.proofs.Common.{◌∙◌, ap, position}
 use Rattle.sshkey_entries.proofs.Fronts.{cut_at, end_place, uncut}
-use Rattle.sshkey_authorized_keys.proofs.OpenSshOptions.{cuts_name, end_ascii, ends_name}
+use Rattle.sshkey_authorized_keys.proofs.OptionCuts.{cuts_name, end_ascii, ends_name}
 use Rattle.sshkey_authorized_keys.proofs.option_syntax.split_name.Goals as goal
 
 pub split_at-requires : goal.split_at-requires

@@ -1,7 +1,7 @@
 use Rattle.std.proofs.Common.{subst, List, ℕ, Some, None, ◌∙◌}
 use Rattle.sshkey_entries.specs.Fields.{is_plain_quote}
 use Rattle.sshkey_authorized_keys.specs.Options.{FindsPlace}
-use Rattle.sshkey_authorized_keys.proofs.OpenSshOptions.{quote_place, quoted_cut, quoted_none, whole_front}
+use Rattle.sshkey_authorized_keys.proofs.OptionCuts.{quote_place, quoted_cut, quoted_none, whole_front}
 use Rattle.sshkey_authorized_keys.proofs.option_syntax.split_quoted.Goals as goal
 
 pub range_from-requires : goal.range_from-requires

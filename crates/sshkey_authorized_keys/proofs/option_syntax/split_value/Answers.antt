@@ -1,6 +1,6 @@
 use Rattle.std.proofs.Common.{◌∷◌, ◌∙◌, sym}
 use Rattle.sshkey_entries.specs.OptionItems.{equals_sign, quote}
-use Rattle.sshkey_authorized_keys.proofs.OpenSshOptions.{value_cut}
+use Rattle.sshkey_authorized_keys.proofs.OptionCuts.{value_cut}
 use Rattle.sshkey_authorized_keys.proofs.option_syntax.split_value.Goals as goal
 
 pub returns-in-Some-split_quoted : goal.returns-in-Some-split_quoted

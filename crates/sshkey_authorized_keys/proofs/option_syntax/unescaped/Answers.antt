@@ -1,5 +1,5 @@
 use Rattle.std.proofs.Common.{◌∙◌}
-use Rattle.sshkey_authorized_keys.proofs.OpenSshOptions.{escape_more, escape_last, whole_front}
+use Rattle.sshkey_authorized_keys.proofs.OptionCuts.{escape_more, escape_last, whole_front}
 use Rattle.sshkey_authorized_keys.proofs.option_syntax.unescaped.Goals as goal
 
 pub parts-preserved : goal.parts-preserved

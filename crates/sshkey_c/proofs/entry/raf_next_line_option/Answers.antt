@@ -1,7 +1,7 @@
 use Rattle.std.proofs.Common.{◌≡◌, ◌<◌, ◌-◌, ap, arith, drop, length, length-drop, rules, subst, sym, ◌∙◌, List, ℕ}
 use Rattle.std.proofs.lemmas.List.{nil_from_length}
 use Rattle.sshkey_entries.specs.OptionItems.{without_commas}
-use Rattle.sshkey_authorized_keys.proofs.OpenSshOptions.{at_most}
+use Rattle.sshkey_authorized_keys.proofs.OptionCuts.{at_most}
 use Rattle.sshkey_entry_calls.specs.Options.{TellsOption}
 use Rattle.sshkey_entry_calls.proofs.EntryOptions.{ends_here, finds, no_text}
 use Rattle.sshkey_c.proofs.entry.raf_next_line_option.Goals as goal

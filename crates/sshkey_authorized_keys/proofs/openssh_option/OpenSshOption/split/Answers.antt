@@ -1,5 +1,5 @@
 use Rattle.std.proofs.Common.{sym, ◌∙◌}
-use Rattle.sshkey_authorized_keys.proofs.OpenSshOptions.{no_value_there, no_end_there}
+use Rattle.sshkey_authorized_keys.proofs.OptionCuts.{no_value_there, no_end_there}
 use Rattle.sshkey_authorized_keys.proofs.openssh_option.OpenSshOption.split.Goals as goal
 
 pub returns-in_default : goal.returns-in_default

@@ -1,6 +1,6 @@
 use Rattle.std.proofs.Common.{ap, ◌∙◌}
 use Rattle.sshkey_entries.specs.OptionItems.{without_commas}
-use Rattle.sshkey_authorized_keys.proofs.OpenSshOptions.{one_less, nothing_left, none_there}
+use Rattle.sshkey_authorized_keys.proofs.OptionCuts.{one_less, nothing_left, none_there}
 use Rattle.sshkey_authorized_keys.proofs.openssh_option.OpenSshOptionsIterIterator.next.Goals as goal
 
 pub returns-in-Some-clause-goes : goal.returns-in-Some-clause-goes
