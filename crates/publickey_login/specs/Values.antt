@@ -11,7 +11,6 @@ use Rattle.sshkey_model.specs.Verification.{Question}
 use Rattle.sshkey_userauth.specs.Values.{lent}
 use Rattle.user_keys.specs.declared.grant.NamedLine.{NamedLine}
 use Rattle.publickey_login.specs.Sources as logins
-use Rattle.publickey_login.specs.Sources as searches
 use Rattle.publickey_login.specs.Signatures as model
 use Rattle.publickey_login.specs.declared.offer.Offer.{Offer}
 use Rattle.publickey_login.specs.declared.place.Place.{Place}
@@ -70,10 +69,10 @@ place_known p = record p { client = logins.client_known p.client }
 
 -- ---- what is sought and found
 
-abbrev pub sought_of : Sought → searches.Sought
-sought_of (sought.KeyLine k) = searches.KeyLine (key_of k.now)
-sought_of (sought.AuthorityLine c) = searches.AuthorityLine (certificate_of c.now)
-sought_of (sought.PrincipalLine c) = searches.PrincipalLine (certificate_of c.now)
+abbrev pub sought_of : Sought → logins.Sought
+sought_of (sought.KeyLine k) = logins.KeyLine (key_of k.now)
+sought_of (sought.AuthorityLine c) = logins.AuthorityLine (certificate_of c.now)
+sought_of (sought.PrincipalLine c) = logins.PrincipalLine (certificate_of c.now)
 
-abbrev pub found_of : NamedLine → searches.Found
+abbrev pub found_of : NamedLine → logins.Found
 found_of f = record { line = f.first.line; terms = terms_of f.first.terms; name = string_bytes f.name }

@@ -4,7 +4,7 @@ pub mod ByKeys
 mod Nothing
 mod RevokedFiles
 mod KeyKinds
-mod Authorities
+mod AuthorityFields
 pub mod Hosts
 pub mod Texts
 mod Destinations

@@ -1,7 +1,6 @@
 use Rattle.std.proofs.Common.{◌≡◌, ◌∙◌, Ok, Option, Some, ap, inl, inr, refl, subst, sym, true}
 use Rattle.std.proofs.lemmas.Result.{err_from_is_err_and}
 use Rattle.login_policy.specs.Logins as policy
-use Rattle.login_policy.specs.Logins as policies
 use Rattle.login_policy.specs.Refusals.{RefusesLogin}
 use Rattle.openssh_limits.specs.Limits.{openssh_accepts_key}
 use Rattle.sshkey_cert.specs.Certificates.{certificate_of}
@@ -54,10 +53,10 @@ returns g c =
     let authorities = authorities_are l k c.in_ok-source.field-0.source c.in_ok-fingerprint_of.field-0 c.args.trusted.now.authorities.now c.authorities_of.result.now c.authorities_of.ensures print refl in
     let asked = same_policy l k (fingerprints_of c.authorities_of.result.now) (authorities_of l k c.in_ok-source.field-0.source) c.as_str.result.now found.name authorities c.as_str.ensures.value in
     let p = c.in-Ok-pending_of.held in
-    let pends = subst (λ (x : policy.Login). policies.PendsExactly x (Ok p)) asked c.in-Ok-pending_of.ensures.exactly in
+    let pends = subst (λ (x : policy.Login). policy.PendsExactly x (Ok p)) asked c.in-Ok-pending_of.ensures.exactly in
     let held = held_certificate l k c.requires accepted c.in_ok-source.field-0.source found from p pends in
     let given = c.in-Ok-decide.ensures in
-    let same : c.in-Ok-decide.granted ≡ policies.grant_in p = cc in (
+    let same : c.in-Ok-decide.granted ≡ policy.grant_in p = cc in (
       k,
       grants_certificate l k c.requires accepted c.in_ok-source.field-0.source found from p pends c.in-Ok-decide.granted same c.merged.result c.merged.ensures.line c.merged.ensures.terms c.merged.ensures.certified c.in_ok-fingerprint_of-2.field-0 (subst (λ (x : Key). IsFingerprint Sha256 x c.in_ok-fingerprint_of-2.field-0) is_own c.in_ok-fingerprint_of-2.ensures.given),
       is_own,

@@ -1,6 +1,6 @@
 use Rattle.std.proofs.Common.{List, subst, ℕ}
 use Rattle.sshkey_entries.specs.Fields.{CutsWord}
-use Rattle.sshkey_entry_calls.proofs.Authorities.{begins, shorter}
+use Rattle.sshkey_entry_calls.proofs.AuthorityFields.{begins, shorter}
 use Rattle.sshkey_entry_calls.proofs.authorities.key_fields.Goals as goal
 
 pub slice_bounds-result-count : goal.slice_bounds-result-count

@@ -1,6 +1,6 @@
 use Rattle.std.proofs.Common.{inl, refl}
 use Rattle.sshkey_base.specs.Causes.{cause}
-use Rattle.sshkey_entry_calls.proofs.Authorities.{memory_alone}
+use Rattle.sshkey_entry_calls.proofs.AuthorityFields.{memory_alone}
 use Rattle.sshkey_entry_calls.proofs.authorities.tell_fields.Goals as goal
 
 pub returns-in-Err : goal.returns-in-Err
