@@ -50,8 +50,8 @@ module _ (texts : List (Bor (List ℕ))) (i : ℕ) where
           subst (Any P) (sym (flat_map-append lines (take (i + 1) texts) (drop (i + 1) texts)) ∙ ap lines_of (take-append-drop (i + 1) texts))
           (first P (lines_of (take (i + 1) texts)) (lines_of (drop (i + 1) texts)) front)
 
-      pub none_more : (Any P (lines_of (take i texts)) → ⊥) → (Any P (filled_lines (get_or texts i d).now) → ⊥) → Any P (lines_of (take (i + 1) texts)) → ⊥
-      none_more before here s = elim (either P (lines_of (take i texts)) (filled_lines (get_or texts i d).now) (subst (Any P) more_lines s)) [
+      pub none_in_more : (Any P (lines_of (take i texts)) → ⊥) → (Any P (filled_lines (get_or texts i d).now) → ⊥) → Any P (lines_of (take (i + 1) texts)) → ⊥
+      none_in_more before here s = elim (either P (lines_of (take i texts)) (filled_lines (get_or texts i d).now) (subst (Any P) more_lines s)) [
         | inl a ↦ before a
         | inr b ↦ here b
       ]

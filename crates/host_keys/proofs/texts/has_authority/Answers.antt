@@ -5,7 +5,7 @@ use Rattle.sshkey_entries.specs.KnownHosts.{CertAuthority}
 use Rattle.sshkey_keys.specs.Keys.{key_of}
 use Rattle.sshkey_public.specs.PublicKeys.{public_of}
 use Rattle.sshkey_public.specs.declared.public_key.PublicKey.{PublicKey}
-use Rattle.host_keys.proofs.SeveralTexts.{all_lines, none_more, of_error, some_line, some_more}
+use Rattle.host_keys.proofs.SeveralTexts.{all_lines, none_in_more, of_error, some_line, some_more}
 use Rattle.host_keys.proofs.texts.has_authority.Goals as goal
 
 pub returns-in_err-keys-clause-asks : goal.returns-in_err-keys-clause-asks
@@ -20,7 +20,7 @@ returns-then-has_key-clause-answer g c =
 
 pub loop-text-preserved : goal.loop-text-preserved
 loop-text-preserved g c =
-    none_more c.args.texts.now c.loop-text.text-index _ c.loop-text-test.true (Lists (g.H.HostHasher.hmac c.args.hmac.now) (known_name c.args.host.now c.args.port) (Some CertAuthority) (key_of c.args.key.now)) c.loop-text.invariant (λ here.
+    none_in_more c.args.texts.now c.loop-text.text-index _ c.loop-text-test.true (Lists (g.H.HostHasher.hmac c.args.hmac.now) (known_name c.args.host.now c.args.port) (Some CertAuthority) (key_of c.args.key.now)) c.loop-text.invariant (λ here.
     let listed = subst (Any (λ (k : PublicKey). public_of k ≡ key_of c.args.key.now)) (sym c.deref.ensures.value) ((c.in_ok-keys.ensures.answer (key_of c.args.key.now)).1 here) in
     let yes : c.has_key.result ≡ true = c.has_key.ensures.1 listed in
     absurd cc)
