@@ -12,13 +12,14 @@ use Rattle.sshkey_model.specs.Texts.{string}
 use Rattle.sshkey_model.specs.Names.{Curve, Hash, Algorithm, IsAlgorithm, algorithm}
 use Rattle.sshkey_model.specs.Mpints.{IsMpint, of_positive}
 use Rattle.sshkey_model.specs.Points.{curve_eq}
+use Rattle.sshkey_model.specs.Rows.{Array}
 use Rattle.sshkey_model.specs.Keys.{Key, Dsa, Ecdsa, SkEcdsa, SkEd25519, body, Head, headed, head_of, has_curve, unhashed, wanted_curve, IsBodyUnder, IsEcdsa}
 use Rattle.sshkey_model.specs.KeyPairs.{LeadingZeros, Plain, WithoutZero, WithZero, Short, is_high, is_natural, at_width, short_scalar, scalar_whole, zero_if, scalar_bytes, scalar, IsScalar, HasScalarPlaces, RsaPrivate, SecurityPrivate, KeyPair, DsaPair, EcdsaPair, Ed25519Pair, RsaPair, SkEcdsaPair, SkEd25519Pair, OpaquePair, public_half, pair_algorithm, rsa_private, security_private, pair, IsRsaPrivate, IsEcdsaPair, HasPairPlaces, IsPairUnder, KeyPairChoices, plain_pair, IsKeyPair, HasKeyPairPlaces, keypair, scalar_alone, scalar_after_zero, after_zero, scalar_from, scalar_at, scalar_size, private_before, dsa_pair_from, ed25519_halves_from, security_pair_from, spelled_ecdsa_pair_from, dsa_pair_format, any_ecdsa_pair_format, ecdsa_pair_format, ed25519_pair_format, rsa_private_at, rsa_pair_format, security_private_format, sk_ecdsa_pair_format, sk_ed25519_pair_format, opaque_pair_format, pair_kind_format, plainly, any_ecdsa_pair_at, pair_at, keypair_at}
 use Rattle.sshkey_model.proofs.CombinedReaders.{bind_assoc, bind_ok, done, ok_is, chosen, met, passed, ReadsFront, ReadsWhole, all_reads, checked_whole_reads, Any, wide8, number_reads, string_reads, whole_reads, bytes_reads, box_reads, then_reads, checked_reads, to_form, kept, same_front, as_front_form}
 use Rattle.sshkey_model.proofs.NameReaders.{algorithm_reads}
 use Rattle.sshkey_model.proofs.MpintReaders.{mpint_reads}
 use Rattle.sshkey_model.proofs.PointReaders.{same_curve, curve_itself}
-use Rattle.sshkey_model.proofs.KeyReaders.{dsa_reads, any_ecdsa_reads, sk_ecdsa_reads, sk_ed25519_reads, ed25519_string_reads, split_head, join_head}
+use Rattle.sshkey_model.proofs.KeyReaders.{field_reads, body_reads, any_ecdsa_reads, split_head, join_head}
 
 -- ---- scalars
 
@@ -193,7 +194,7 @@ abbrev plain_pair_parts : KeyPair → Parts
 plain_pair_parts k = pair k Plain
 
 dsa_pair_reads : ReadsFront (IsPairUnder Algorithm.Dsa) plain_pair_parts dsa_pair_format.read
-dsa_pair_reads = checked_reads (passes dsa_pair_from (λ a h. there a.0 a.1 h) back) (then_reads dsa_reads (λ _. mpint_reads))
+dsa_pair_reads = checked_reads (passes dsa_pair_from (λ a h. there a.0 a.1 h) back) (then_reads (body_reads Algorithm.Dsa) (λ _. mpint_reads))
   where
     there : (k : Key) (x : List ℕ) → IsBodyUnder Algorithm.Dsa k × IsMpint x → (p : KeyPair) × (dsa_pair_from (k, x) ≡ Ok p) × IsPairUnder Algorithm.Dsa p × (body k & string x ≡ pair p Plain)
     there (Dsa k) x h = (DsaPair k x, refl, (refl, (h.0.1, h.1)), refl)
@@ -207,7 +208,7 @@ dsa_pair_reads = checked_reads (passes dsa_pair_from (λ a h. there a.0 a.1 h) b
 
 -- 32 public bytes, and 64 whose second half they are
 ed25519_pair_reads : ReadsFront (IsPairUnder Algorithm.Ed25519) plain_pair_parts ed25519_pair_format.read
-ed25519_pair_reads = checked_reads (record { takes = there; again = back }) (then_reads ed25519_string_reads (λ _. box_reads (whole_reads (bytes_reads 64))))
+ed25519_pair_reads = checked_reads (record { takes = there; again = back }) (then_reads (field_reads (Array 32)) (λ _. box_reads (whole_reads (bytes_reads 64))))
   where
     Are : List ℕ × List ℕ → Type 0
     Are a = HasLength 32 a.0 × HasLength 64 a.1
@@ -261,7 +262,7 @@ security_private_reads = checked_reads (to_form
     (then_reads (number_reads w8 wide8) (λ _. then_reads string_reads (λ _. string_reads)))
 
 sk_ecdsa_pair_reads : ReadsFront (IsPairUnder Algorithm.SkEcdsa) plain_pair_parts sk_ecdsa_pair_format.read
-sk_ecdsa_pair_reads = checked_reads (passes security_pair_from (λ a h. there a.0 a.1 h) back) (then_reads sk_ecdsa_reads (λ _. security_private_reads))
+sk_ecdsa_pair_reads = checked_reads (passes security_pair_from (λ a h. there a.0 a.1 h) back) (then_reads (body_reads Algorithm.SkEcdsa) (λ _. security_private_reads))
   where
     there : (k : Key) (r : SecurityPrivate) → IsBodyUnder Algorithm.SkEcdsa k × Any r → (p : KeyPair) × (security_pair_from (k, r) ≡ Ok p) × IsPairUnder Algorithm.SkEcdsa p × (body k & security_private r ≡ pair p Plain)
     there (SkEcdsa k) r h = (SkEcdsaPair k r, refl, (refl, (h.0.1, tt)), refl)
@@ -272,7 +273,7 @@ sk_ecdsa_pair_reads = checked_reads (passes security_pair_from (λ a h. there a.
     back _ h = absurd (cc h.0)
 
 sk_ed25519_pair_reads : ReadsFront (IsPairUnder Algorithm.SkEd25519) plain_pair_parts sk_ed25519_pair_format.read
-sk_ed25519_pair_reads = checked_reads (passes security_pair_from (λ a h. there a.0 a.1 h) back) (then_reads sk_ed25519_reads (λ _. security_private_reads))
+sk_ed25519_pair_reads = checked_reads (passes security_pair_from (λ a h. there a.0 a.1 h) back) (then_reads (body_reads Algorithm.SkEd25519) (λ _. security_private_reads))
   where
     there : (k : Key) (r : SecurityPrivate) → IsBodyUnder Algorithm.SkEd25519 k × Any r → (p : KeyPair) × (security_pair_from (k, r) ≡ Ok p) × IsPairUnder Algorithm.SkEd25519 p × (body k & security_private r ≡ pair p Plain)
     there (SkEd25519 k) r h = (SkEd25519Pair k r, refl, (refl, (h.0.1, tt)), refl)
@@ -401,9 +402,4 @@ ecdsa_pair_value wanted b = rw (← any_ecdsa_pair_value b) (go (any_ecdsa_pair_
 
 pub pair_value : (a : Algorithm) (b : List ℕ) → value_at (pair_at a) b ≡ (pair_kind_format a).read b
 pair_value (Algorithm.Ecdsa c) b = ecdsa_pair_value c b
-pair_value Algorithm.Dsa b = plain_value dsa_pair_format b
-pair_value Algorithm.Ed25519 b = plain_value ed25519_pair_format b
-pair_value (Algorithm.Rsa hash) b = plain_value rsa_pair_format b
-pair_value Algorithm.SkEcdsa b = plain_value sk_ecdsa_pair_format b
-pair_value Algorithm.SkEd25519 b = plain_value sk_ed25519_pair_format b
-pair_value (Algorithm.Other name) b = plain_value (opaque_pair_format name) b
+pair_value a b = plain_value (pair_kind_format a) b
