@@ -30,5 +30,5 @@ same_key (Opaque n k) (Opaque m l) e = let h = both_eq n m k l e in λ i. Opaque
 same_key _ _ e = absurd cc
 
 pub key_itself : (k : Key) → key_eq k k ≡ true
-key_itself (Dsa k) = simp (itself, curve_itself) refl
-key_itself _ = simp (itself, curve_itself) refl
+key_itself (Ecdsa c p) = simp (itself, curve_itself) refl
+key_itself _ = simp itself refl

@@ -1,5 +1,5 @@
 -- Key pairs are read as they are spelled.
-use Rattle.std.proofs.Common.{◌≡◌, ◌⊎◌, ℕ, zero, suc, ◌-◌, ◌<◌, ◌≤◌, eqb, ltb, inl, inr, Option, Bool, true, false, cond, List, [], ◌∷◌, ◌++◌, length, take, drop, replicate, Result, Ok, Err, bytes_eq, refl, sym, ap, subst, ◌∙◌, arith}
+use Rattle.std.proofs.Common.{◌≡◌, ◌⊎◌, ℕ, zero, suc, ◌-◌, ◌<◌, ◌≤◌, eqb, ltb, inl, inr, Bool, true, false, cond, List, [], ◌∷◌, ◌++◌, length, take, drop, replicate, Result, Ok, Err, bytes_eq, refl, sym, ap, subst, ◌∙◌, arith}
 use Rattle.std.specs.Int.{w8}
 use Rattle.std.proofs.lemmas.Bool.{eqb-true, eq-eqb, ne_eqb, ltb-true, lt-ltb, le-ltb}
 use Rattle.std.proofs.lemmas.List.{take_at, drop_at, take-append-drop, length-append, length-take, length-replicate}
@@ -9,12 +9,12 @@ use Rattle.sshkey_model.specs.Reading.{Fault, FormatEncoding, AlgorithmUnknown, 
 use Rattle.sshkey_model.specs.Grammar.{IsSpelled, spelled, Checks, value_at}
 use Rattle.sshkey_model.specs.Formats.{Format}
 use Rattle.sshkey_model.specs.Texts.{string}
-use Rattle.sshkey_model.specs.Names.{Curve, Hash, Algorithm, IsAlgorithm, algorithm}
+use Rattle.sshkey_model.specs.Names.{Curve, Algorithm, IsAlgorithm, algorithm}
 use Rattle.sshkey_model.specs.Mpints.{IsMpint, of_positive}
 use Rattle.sshkey_model.specs.Points.{curve_eq}
 use Rattle.sshkey_model.specs.Rows.{Array}
-use Rattle.sshkey_model.specs.Keys.{Key, Dsa, Ecdsa, SkEcdsa, SkEd25519, body, Head, headed, head_of, has_curve, unhashed, wanted_curve, IsBodyUnder, IsEcdsa}
-use Rattle.sshkey_model.specs.KeyPairs.{LeadingZeros, Plain, WithoutZero, WithZero, Short, is_high, is_natural, at_width, short_scalar, scalar_whole, zero_if, scalar_bytes, scalar, IsScalar, HasScalarPlaces, RsaPrivate, SecurityPrivate, KeyPair, DsaPair, EcdsaPair, Ed25519Pair, RsaPair, SkEcdsaPair, SkEd25519Pair, OpaquePair, public_half, pair_algorithm, rsa_private, security_private, pair, IsRsaPrivate, IsEcdsaPair, HasPairPlaces, IsPairUnder, KeyPairChoices, plain_pair, IsKeyPair, HasKeyPairPlaces, keypair, scalar_alone, scalar_after_zero, after_zero, scalar_from, scalar_at, scalar_size, private_before, dsa_pair_from, ed25519_halves_from, security_pair_from, spelled_ecdsa_pair_from, dsa_pair_format, any_ecdsa_pair_format, ecdsa_pair_format, ed25519_pair_format, rsa_private_at, rsa_pair_format, security_private_format, sk_ecdsa_pair_format, sk_ed25519_pair_format, opaque_pair_format, pair_kind_format, plainly, any_ecdsa_pair_at, pair_at, keypair_at}
+use Rattle.sshkey_model.specs.Keys.{Key, Dsa, Ecdsa, SkEcdsa, SkEd25519, body, Head, headed, head_of, has_curve, wanted_curve, IsBodyUnder, IsEcdsa}
+use Rattle.sshkey_model.specs.KeyPairs.{LeadingZeros, Plain, WithoutZero, WithZero, Short, is_high, is_natural, at_width, short_scalar, scalar_whole, zero_if, scalar_bytes, scalar, IsScalar, HasScalarPlaces, RsaPrivate, SecurityPrivate, KeyPair, DsaPair, EcdsaPair, Ed25519Pair, RsaPair, SkEcdsaPair, SkEd25519Pair, OpaquePair, public_half, pair_algorithm, rsa_private, security_private, pair, IsRsaPrivate, IsEcdsaPair, HasPairPlaces, IsPairUnder, KeyPairChoices, plain_pair, IsKeyPair, HasKeyPairPlaces, keypair, scalar_alone, scalar_after_zero, after_zero, scalar_from, scalar_at, scalar_size, private_before, dsa_pair_from, ed25519_halves_from, security_pair_from, spelled_ecdsa_pair_from, any_ecdsa_pair_format, ecdsa_pair_format, rsa_private_at, security_private_format, pair_kind_format, plainly, any_ecdsa_pair_at, pair_at, keypair_at}
 use Rattle.sshkey_model.proofs.CombinedReaders.{bind_assoc, bind_ok, done, ok_is, chosen, met, passed, ReadsFront, ReadsWhole, all_reads, checked_whole_reads, Any, wide8, number_reads, string_reads, whole_reads, bytes_reads, box_reads, then_reads, checked_reads, to_form, kept, same_front, as_front_form}
 use Rattle.sshkey_model.proofs.NameReaders.{algorithm_reads}
 use Rattle.sshkey_model.proofs.MpintReaders.{mpint_reads}
