@@ -7,12 +7,12 @@ use Rattle.sshkey_model.specs.Texts.{string}
 use Rattle.sshkey_model.specs.Names.{Curve, Nistp256, Sha256, Sha512, Algorithm, IsAlgorithm, algorithm, curve}
 use Rattle.sshkey_model.specs.Points.{curve_eq, of_curve, IsPointOf}
 use Rattle.sshkey_model.specs.Rows.{Field, Mpint, Text, Bytes, Array, Point, IsField, field_format, Row, Last, ◌before◌, Fields, AreFields, fields, fields_format}
-use Rattle.sshkey_model.specs.Keys.{Key, Dsa, Ecdsa, key_algorithm, kind, key_parts, stated, body, IsKey, key, HasKeyPlaces, key_from, any_ecdsa_format, ecdsa_format, ecdsa_key_from, kind_format, p256_only, has_curve, IsEcdsa, Head, Plain, headed, HasHead, head_of, key_at, unhashed, IsBodyUnder}
+use Rattle.sshkey_model.specs.Keys.{Key, Dsa, Ecdsa, key_algorithm, kind, key_fields, with_curve, body, IsKey, key, HasKeyPlaces, key_from, any_ecdsa_format, ecdsa_format, ecdsa_key_from, kind_format, p256_only, has_curve, IsEcdsa, Head, Plain, headed, HasHead, head_of, key_at, unhashed, IsBodyUnder}
 use Rattle.sshkey_model.proofs.CombinedReaders.{bind_ok, done, ok_is, met, ReadsFront, Any, whole_reads, bytes_reads, string_reads, box_reads, then_reads, checked_reads, checked_string_reads, to_form, kept, as_front_form}
 use Rattle.sshkey_model.proofs.NameReaders.{curve_reads, algorithm_reads}
 use Rattle.sshkey_model.proofs.TextReaders.{text_reads}
 use Rattle.sshkey_model.proofs.MpintReaders.{mpint_reads}
-use Rattle.sshkey_model.proofs.PointReaders.{same_curve, curve_itself, point_reads, own_point_checks}
+use Rattle.sshkey_model.proofs.PointReaders.{same_curve, curve_itself, point_reads, curve_point_checks}
 
 -- ---- rows
 
@@ -21,24 +21,24 @@ field_reads Mpint = mpint_reads
 field_reads Text = text_reads
 field_reads Bytes = string_reads
 field_reads (Array n) = box_reads (whole_reads (bytes_reads n))
-field_reads (Point c) = checked_string_reads (own_point_checks c)
+field_reads (Point c) = checked_string_reads (curve_point_checks c)
 
 fields_reads : (r : Row) → ReadsFront (AreFields r) (fields r) (fields_format r).read
 fields_reads (Last f) = field_reads f
 fields_reads (f before r) = then_reads (field_reads f) (λ _. fields_reads r)
 
 -- a key is made of its strings
-own_key : (k : Key) → (kind (key_algorithm k)).key (key_parts k).1 ≡ k
+own_key : (k : Key) → (kind (key_algorithm k)).key (key_fields k).1 ≡ k
 own_key (Dsa k) = refl
 own_key _ = refl
 
-row_checks : (a : Algorithm) → Checks (AreFields (kind a).row) (λ x. stated a (fields (kind a).row x)) (IsBodyUnder a) body (key_from a)
-row_checks a = to_form (kind a).key (there a) (λ k h. back k a (subst (Made k) h.0 ((key_parts k).1, h.1, own_key k, refl)))
+row_checks : (a : Algorithm) → Checks (AreFields (kind a).row) (λ x. with_curve a (fields (kind a).row x)) (IsBodyUnder a) body (key_from a)
+row_checks a = to_form (kind a).key (there a) (λ k h. back k a (subst (Made k) h.0 ((key_fields k).1, h.1, own_key k, refl)))
   where
     Made : Key → Algorithm → Type 0
-    Made k a = (x : Fields (kind a).row) × AreFields (kind a).row x × ((kind a).key x ≡ k) × (stated a (fields (kind a).row x) ≡ body k)
+    Made k a = (x : Fields (kind a).row) × AreFields (kind a).row x × ((kind a).key x ≡ k) × (with_curve a (fields (kind a).row x) ≡ body k)
 
-    there : (a : Algorithm) (x : Fields (kind a).row) → AreFields (kind a).row x → IsBodyUnder a ((kind a).key x) × (stated a (fields (kind a).row x) ≡ body ((kind a).key x))
+    there : (a : Algorithm) (x : Fields (kind a).row) → AreFields (kind a).row x → IsBodyUnder a ((kind a).key x) × (with_curve a (fields (kind a).row x) ≡ body ((kind a).key x))
     there Algorithm.Dsa x h = ((refl, h), refl)
     there _ x h = ((refl, h), refl)
 

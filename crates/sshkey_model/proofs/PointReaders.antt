@@ -5,7 +5,7 @@ use Rattle.sshkey_model.specs.Parts.{bytes}
 use Rattle.sshkey_model.specs.Reading.{Length, AlgorithmUnknown, Ecdsa, ◌>>=◌, checked_at}
 use Rattle.sshkey_model.specs.Texts.{string}
 use Rattle.sshkey_model.specs.Names.{Curve, Nistp256, Nistp384, Nistp521}
-use Rattle.sshkey_model.specs.Points.{field_size, is_point, IsPoint, curve_eq, of_curve, curve_of_size, point_curve, point_from, own_point_from, IsPointOf, point_format}
+use Rattle.sshkey_model.specs.Points.{field_size, is_point, IsPoint, curve_eq, of_curve, curve_of_size, point_curve, point_from, curve_point_from, IsPointOf, point_format}
 use Rattle.sshkey_model.specs.Grammar.{Checks}
 use Rattle.sshkey_model.proofs.CombinedReaders.{bind_ok, ok_is, done, passed, chosen, ReadsFront, Any, kept, kept_bytes, checked_reads, checked_string_reads}
 
@@ -96,13 +96,13 @@ pub curve_itself : (c : Curve) → curve_eq c c ≡ true
 curve_itself Nistp256 = refl
 curve_itself _ = refl
 
-pub own_point_checks : (c : Curve) → Checks Any bytes (IsPoint c) bytes (own_point_from c)
-own_point_checks c = record { takes = there; again = back }
+pub curve_point_checks : (c : Curve) → Checks Any bytes (IsPoint c) bytes (curve_point_from c)
+curve_point_checks c = record { takes = there; again = back }
   where
-    there : (b x : List ℕ) → Any b → own_point_from c b ≡ Ok x → IsPoint c x × (bytes b ≡ bytes x)
+    there : (b x : List ℕ) → Any b → curve_point_from c b ≡ Ok x → IsPoint c x × (bytes b ≡ bytes x)
     there b x was e = (kept_bytes (is_point (field_size c)) Ecdsa).takes b x tt (passed (ltb (1 + 2 * field_size c) (length b)) Length (cond (is_point (field_size c) b) (done b) (Err Ecdsa)) x e).1
 
-    back : (x : List ℕ) → IsPoint c x → (b : List ℕ) × Any b × (own_point_from c b ≡ Ok x) × (bytes b ≡ bytes x)
+    back : (x : List ℕ) → IsPoint c x → (b : List ℕ) × Any b × (curve_point_from c b ≡ Ok x) × (bytes b ≡ bytes x)
     back x is =
         let a = point_again x c is in
         let small : ltb (1 + 2 * field_size c) (length x) ≡ false = le-ltb _ _ a.1 in

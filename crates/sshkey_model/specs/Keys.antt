@@ -51,30 +51,30 @@ kind Algorithm.SkEd25519 = record { row = Array 32 before Last Text; key = λ x.
 kind (Algorithm.Other name) = record { row = Last Bytes; key = Opaque name }
 
 -- the algorithm of a key, and its strings
-abbrev pub key_parts : Key → (a : Algorithm) × Fields (kind a).row
-key_parts (Dsa k) = (Algorithm.Dsa, (k.p, (k.q, (k.g, k.y))))
-key_parts (Ecdsa c point) = (Algorithm.Ecdsa c, point)
-key_parts (Ed25519 k) = (Algorithm.Ed25519, k)
-key_parts (Rsa k) = (Algorithm.Rsa None, (k.e, k.n))
-key_parts (SkEcdsa k) = (Algorithm.SkEcdsa, (k.key, k.application))
-key_parts (SkEd25519 k) = (Algorithm.SkEd25519, (k.key, k.application))
-key_parts (Opaque name k) = (Algorithm.Other name, k)
+abbrev pub key_fields : Key → (a : Algorithm) × Fields (kind a).row
+key_fields (Dsa k) = (Algorithm.Dsa, (k.p, (k.q, (k.g, k.y))))
+key_fields (Ecdsa c point) = (Algorithm.Ecdsa c, point)
+key_fields (Ed25519 k) = (Algorithm.Ed25519, k)
+key_fields (Rsa k) = (Algorithm.Rsa None, (k.e, k.n))
+key_fields (SkEcdsa k) = (Algorithm.SkEcdsa, (k.key, k.application))
+key_fields (SkEd25519 k) = (Algorithm.SkEd25519, (k.key, k.application))
+key_fields (Opaque name k) = (Algorithm.Other name, k)
 
 abbrev pub key_algorithm : Key → Algorithm
-key_algorithm k = (key_parts k).0
+key_algorithm k = (key_fields k).0
 
 -- The name of its curve stands before a point (RFC 5656, section 3.1; PROTOCOL.u2f).
-abbrev pub stated : Algorithm → Parts → Parts
-stated (Algorithm.Ecdsa c) p = curve c & p
-stated Algorithm.SkEcdsa p = curve Nistp256 & p
-stated _ p = p
+abbrev pub with_curve : Algorithm → Parts → Parts
+with_curve (Algorithm.Ecdsa c) p = curve c & p
+with_curve Algorithm.SkEcdsa p = curve Nistp256 & p
+with_curve _ p = p
 
 -- what follows the name
 abbrev pub body : Key → Parts
-body k = stated (key_algorithm k) (fields (kind (key_algorithm k)).row (key_parts k).1)
+body k = with_curve (key_algorithm k) (fields (kind (key_algorithm k)).row (key_fields k).1)
 
 abbrev pub IsBody : Key → Type 0
-IsBody k = AreFields (kind (key_algorithm k)).row (key_parts k).1
+IsBody k = AreFields (kind (key_algorithm k)).row (key_fields k).1
 
 -- ---- the name before it
 

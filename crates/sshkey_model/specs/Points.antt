@@ -54,17 +54,17 @@ abbrev pub point_format : Format (Curve × List ℕ)
 point_format = without_memory (tested point_from string_format)
 
 -- a point string of that curve
-abbrev pub own_point_from : Curve → Whole (List ℕ)
-own_point_from c b = if nat_lt (1 + 2 * field_size c) (length b) then Err Length else if is_point (field_size c) b then Ok b else Err Ecdsa
+abbrev pub curve_point_from : Curve → Whole (List ℕ)
+curve_point_from c b = if nat_lt (1 + 2 * field_size c) (length b) then Err Length else if is_point (field_size c) b then Ok b else Err Ecdsa
 
-abbrev pub own_point_format : Curve → Format (List ℕ)
-own_point_format c = without_memory (tested (own_point_from c) string_format)
+abbrev pub curve_point_format : Curve → Format (List ℕ)
+curve_point_format c = without_memory (tested (curve_point_from c) string_format)
 
 abbrev pub p256_point_from : Whole (List ℕ)
-p256_point_from = own_point_from Nistp256
+p256_point_from = curve_point_from Nistp256
 
 abbrev pub p256_point_format : Format (List ℕ)
-p256_point_format = own_point_format Nistp256
+p256_point_format = curve_point_format Nistp256
 
 -- the point, if it is of the stated curve
 abbrev pub of_curve : Curve → Curve × List ℕ → Result (Curve × List ℕ) Fault

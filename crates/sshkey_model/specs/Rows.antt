@@ -7,7 +7,7 @@ use Rattle.sshkey_model.specs.Terms.{◌then◌}
 use Rattle.sshkey_model.specs.Texts.{string, IsText, text_format}
 use Rattle.sshkey_model.specs.Names.{Curve}
 use Rattle.sshkey_model.specs.Mpints.{IsMpint, mpint_format}
-use Rattle.sshkey_model.specs.Points.{IsPoint, own_point_format}
+use Rattle.sshkey_model.specs.Points.{IsPoint, curve_point_format}
 
 -- what a string may be: a number, a text, any bytes, that many bytes, or a point of that curve
 pub data Field : Type 0 where
@@ -27,7 +27,7 @@ field_format Mpint = mpint_format
 field_format Text = text_format
 field_format Bytes = string_format
 field_format (Array n) = array_format n
-field_format (Point c) = own_point_format c
+field_format (Point c) = curve_point_format c
 
 -- one string, or one before others
 infixr 5 ◌before◌
