@@ -32,19 +32,12 @@ own_key : (k : Key) → (kind (key_algorithm k)).key (key_fields k).1 ≡ k
 own_key (Dsa k) = refl
 own_key _ = refl
 
+abbrev Made : Key → Algorithm → Type 0
+Made k a = (x : Fields (kind a).row) × AreFields (kind a).row x × ((kind a).key x ≡ k) × (with_curve a (fields (kind a).row x) ≡ body k)
+
 row_checks : (a : Algorithm) → Checks (AreFields (kind a).row) (λ x. with_curve a (fields (kind a).row x)) (IsBodyUnder a) body (key_from a)
-row_checks a = to_form (kind a).key (there a) (λ k h. back k a (subst (Made k) h.0 ((key_fields k).1, h.1, own_key k, refl)))
-  where
-    Made : Key → Algorithm → Type 0
-    Made k a = (x : Fields (kind a).row) × AreFields (kind a).row x × ((kind a).key x ≡ k) × (with_curve a (fields (kind a).row x) ≡ body k)
-
-    there : (a : Algorithm) (x : Fields (kind a).row) → AreFields (kind a).row x → IsBodyUnder a ((kind a).key x) × (with_curve a (fields (kind a).row x) ≡ body ((kind a).key x))
-    there Algorithm.Dsa x h = ((refl, h), refl)
-    there _ x h = ((refl, h), refl)
-
-    back : (k : Key) (a : Algorithm) → Made k (unhashed a) → Made k a
-    back k Algorithm.Dsa made = made
-    back k _ made = made
+row_checks Algorithm.Dsa = to_form (kind Algorithm.Dsa).key (λ x h. ((refl, h), refl)) (λ k h. subst (Made k) h.0 ((key_fields k).1, h.1, own_key k, refl))
+row_checks a = to_form (kind a).key (λ x h. ((refl, h), refl)) (λ k h. subst (Made k) h.0 ((key_fields k).1, h.1, own_key k, refl))
 
 ecdsa_checks : Checks (λ a. Any a.0 × IsPointOf a.1) (λ a. curve a.0 & string a.1.1) IsEcdsa body ecdsa_key_from
 ecdsa_checks = record { takes = there; again = back }
