@@ -161,7 +161,7 @@ has_curve wanted _ = false
 
 -- what was read, if its key has that curve
 abbrev pub wanted_curve : {A : Type 0} → (A → Key) → Curve → A → Result A Fault
-wanted_curve row_key wanted x = if has_curve wanted (row_key x) then Ok x else Err AlgorithmUnknown
+wanted_curve key_of wanted x = if has_curve wanted (key_of x) then Ok x else Err AlgorithmUnknown
 
 -- of the curve that the algorithm names
 abbrev pub ecdsa_format : Curve → Format Key
