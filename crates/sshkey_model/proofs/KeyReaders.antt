@@ -7,7 +7,7 @@ use Rattle.sshkey_model.specs.Texts.{string}
 use Rattle.sshkey_model.specs.Names.{Curve, Nistp256, Sha256, Sha512, Algorithm, IsAlgorithm, algorithm, curve}
 use Rattle.sshkey_model.specs.Points.{curve_eq, of_curve, IsPointOf}
 use Rattle.sshkey_model.specs.Rows.{Field, Mpint, Text, Bytes, Array, Point, IsField, field_format, Row, Last, ◌before◌, Fields, AreFields, fields, fields_format}
-use Rattle.sshkey_model.specs.Keys.{Key, Dsa, Ecdsa, key_algorithm, kind, key_fields, with_curve, body, IsKey, key, HasKeyPlaces, key_from, any_ecdsa_format, ecdsa_format, ecdsa_key_from, kind_format, p256_only, has_curve, IsEcdsa, Head, Plain, headed, HasHead, head_of, key_at, unhashed, IsBodyUnder}
+use Rattle.sshkey_model.specs.Keys.{Key, Dsa, Ecdsa, key_algorithm, kind, of_fields, with_curve, body, IsBody, IsKey, key, HasKeyPlaces, key_from, any_ecdsa_format, ecdsa_format, ecdsa_key_from, kind_format, p256_only, has_curve, IsEcdsa, Head, Plain, headed, HasHead, head_of, key_at, unhashed, IsBodyUnder}
 use Rattle.sshkey_model.proofs.CombinedReaders.{bind_ok, done, ok_is, met, ReadsFront, Any, whole_reads, bytes_reads, string_reads, box_reads, then_reads, checked_reads, checked_string_reads, to_form, kept, as_front_form}
 use Rattle.sshkey_model.proofs.NameReaders.{curve_reads, algorithm_reads}
 use Rattle.sshkey_model.proofs.TextReaders.{text_reads}
@@ -27,17 +27,17 @@ fields_reads : (r : Row) → ReadsFront (AreFields r) (fields r) (fields_format 
 fields_reads (Last f) = field_reads f
 fields_reads (f before r) = then_reads (field_reads f) (λ _. fields_reads r)
 
--- a key is made of its strings
-own_key : (k : Key) → (kind (key_algorithm k)).key (key_fields k).1 ≡ k
-own_key (Dsa k) = refl
-own_key _ = refl
-
 abbrev Made : Key → Algorithm → Type 0
 Made k a = (x : Fields (kind a).row) × AreFields (kind a).row x × ((kind a).key x ≡ k) × (with_curve a (fields (kind a).row x) ≡ body k)
 
+-- a key is made of its strings
+own_key : (k : Key) → IsBody k → Made k (key_algorithm k)
+own_key (Dsa k) h = ((k.p, (k.q, (k.g, k.y))), h, refl, refl)
+own_key k h = ((of_fields {R = (a : Algorithm) × Fields (kind a).row} (λ a x. (a, x)) k).1, h, refl, refl)
+
 row_checks : (a : Algorithm) → Checks (AreFields (kind a).row) (λ x. with_curve a (fields (kind a).row x)) (IsBodyUnder a) body (key_from a)
-row_checks Algorithm.Dsa = to_form (kind Algorithm.Dsa).key (λ x h. ((refl, h), refl)) (λ k h. subst (Made k) h.0 ((key_fields k).1, h.1, own_key k, refl))
-row_checks a = to_form (kind a).key (λ x h. ((refl, h), refl)) (λ k h. subst (Made k) h.0 ((key_fields k).1, h.1, own_key k, refl))
+row_checks Algorithm.Dsa = to_form (kind Algorithm.Dsa).key (λ x h. ((refl, h), refl)) (λ k h. subst (Made k) h.0 (own_key k h.1))
+row_checks a = to_form (kind a).key (λ x h. ((refl, h), refl)) (λ k h. subst (Made k) h.0 (own_key k h.1))
 
 ecdsa_checks : Checks (λ a. Any a.0 × IsPointOf a.1) (λ a. curve a.0 & string a.1.1) IsEcdsa body ecdsa_key_from
 ecdsa_checks = record { takes = there; again = back }

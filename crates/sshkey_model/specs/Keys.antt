@@ -50,18 +50,18 @@ kind Algorithm.SkEcdsa = record { row = Point Nistp256 before Last Text; key = �
 kind Algorithm.SkEd25519 = record { row = Array 32 before Last Text; key = λ x. SkEd25519 (record { key = x.0; application = x.1 }) }
 kind (Algorithm.Other name) = record { row = Last Bytes; key = Opaque name }
 
--- the algorithm of a key, and its strings
-abbrev pub key_fields : Key → (a : Algorithm) × Fields (kind a).row
-key_fields (Dsa k) = (Algorithm.Dsa, (k.p, (k.q, (k.g, k.y))))
-key_fields (Ecdsa c point) = (Algorithm.Ecdsa c, point)
-key_fields (Ed25519 k) = (Algorithm.Ed25519, k)
-key_fields (Rsa k) = (Algorithm.Rsa None, (k.e, k.n))
-key_fields (SkEcdsa k) = (Algorithm.SkEcdsa, (k.key, k.application))
-key_fields (SkEd25519 k) = (Algorithm.SkEd25519, (k.key, k.application))
-key_fields (Opaque name k) = (Algorithm.Other name, k)
+-- what is made of the algorithm of a key and of its strings
+abbrev pub of_fields {ℓ} : {R : Type ℓ} → ((a : Algorithm) → Fields (kind a).row → R) → Key → R
+of_fields f (Dsa k) = f Algorithm.Dsa (k.p, (k.q, (k.g, k.y)))
+of_fields f (Ecdsa c point) = f (Algorithm.Ecdsa c) point
+of_fields f (Ed25519 k) = f Algorithm.Ed25519 k
+of_fields f (Rsa k) = f (Algorithm.Rsa None) (k.e, k.n)
+of_fields f (SkEcdsa k) = f Algorithm.SkEcdsa (k.key, k.application)
+of_fields f (SkEd25519 k) = f Algorithm.SkEd25519 (k.key, k.application)
+of_fields f (Opaque name k) = f (Algorithm.Other name) k
 
 abbrev pub key_algorithm : Key → Algorithm
-key_algorithm k = (key_fields k).0
+key_algorithm = of_fields (λ a x. a)
 
 -- The name of its curve stands before a point (RFC 5656, section 3.1; PROTOCOL.u2f).
 abbrev pub with_curve : Algorithm → Parts → Parts
@@ -71,10 +71,10 @@ with_curve _ p = p
 
 -- what follows the name
 abbrev pub body : Key → Parts
-body k = with_curve (key_algorithm k) (fields (kind (key_algorithm k)).row (key_fields k).1)
+body = of_fields (λ a x. with_curve a (fields (kind a).row x))
 
 abbrev pub IsBody : Key → Type 0
-IsBody k = AreFields (kind (key_algorithm k)).row (key_fields k).1
+IsBody = of_fields (λ a x. AreFields (kind a).row x)
 
 -- ---- the name before it
 
