@@ -1,5 +1,5 @@
 -- Key pairs are read as they are spelled.
-use Rattle.std.proofs.Common.{◌≡◌, ◌⊎◌, ℕ, zero, suc, ◌-◌, ◌<◌, ◌≤◌, eqb, ltb, inl, inr, Option, Bool, true, false, cond, List, [], ◌∷◌, ◌++◌, length, take, drop, replicate, Result, Ok, Err, bytes_eq, refl, sym, ap, subst, ◌∙◌, arith}
+use Rattle.std.proofs.Common.{◌≡◌, ◌⊎◌, ℕ, zero, suc, ◌-◌, ◌<◌, ◌≤◌, eqb, ltb, inl, inr, Bool, true, false, cond, List, [], ◌∷◌, ◌++◌, length, take, drop, replicate, Result, Ok, Err, bytes_eq, refl, sym, ap, subst, ◌∙◌, arith}
 use Rattle.std.specs.Int.{w8}
 use Rattle.std.proofs.lemmas.Bool.{eqb-true, eq-eqb, ne_eqb, ltb-true, lt-ltb, le-ltb}
 use Rattle.std.proofs.lemmas.List.{take_at, drop_at, take-append-drop, length-append, length-take, length-replicate}
@@ -9,16 +9,17 @@ use Rattle.sshkey_model.specs.Reading.{Fault, FormatEncoding, AlgorithmUnknown, 
 use Rattle.sshkey_model.specs.Grammar.{IsSpelled, spelled, Checks, value_at}
 use Rattle.sshkey_model.specs.Formats.{Format}
 use Rattle.sshkey_model.specs.Texts.{string}
-use Rattle.sshkey_model.specs.Names.{Curve, Hash, Algorithm, IsAlgorithm, algorithm}
+use Rattle.sshkey_model.specs.Names.{Curve, Algorithm, IsAlgorithm, algorithm}
 use Rattle.sshkey_model.specs.Mpints.{IsMpint, of_positive}
 use Rattle.sshkey_model.specs.Points.{curve_eq}
-use Rattle.sshkey_model.specs.Keys.{Key, Dsa, Ecdsa, SkEcdsa, SkEd25519, body, Head, headed, head_of, has_curve, unhashed, wanted_curve, IsBodyUnder, IsEcdsa}
-use Rattle.sshkey_model.specs.KeyPairs.{LeadingZeros, Plain, WithoutZero, WithZero, Short, is_high, is_natural, at_width, short_scalar, scalar_whole, zero_if, scalar_bytes, scalar, IsScalar, HasScalarPlaces, RsaPrivate, SecurityPrivate, KeyPair, DsaPair, EcdsaPair, Ed25519Pair, RsaPair, SkEcdsaPair, SkEd25519Pair, OpaquePair, public_half, pair_algorithm, rsa_private, security_private, pair, IsRsaPrivate, IsEcdsaPair, HasPairPlaces, IsPairUnder, KeyPairChoices, plain_pair, IsKeyPair, HasKeyPairPlaces, keypair, scalar_alone, scalar_after_zero, after_zero, scalar_from, scalar_at, scalar_size, private_before, dsa_pair_from, ed25519_halves_from, security_pair_from, spelled_ecdsa_pair_from, dsa_pair_format, any_ecdsa_pair_format, ecdsa_pair_format, ed25519_pair_format, rsa_private_at, rsa_pair_format, security_private_format, sk_ecdsa_pair_format, sk_ed25519_pair_format, opaque_pair_format, pair_kind_format, plainly, any_ecdsa_pair_at, pair_at, keypair_at}
+use Rattle.sshkey_model.specs.Rows.{Array}
+use Rattle.sshkey_model.specs.Keys.{Key, Dsa, Ecdsa, SkEcdsa, SkEd25519, body, Head, headed, head_of, has_curve, wanted_curve, IsBodyUnder, IsEcdsa}
+use Rattle.sshkey_model.specs.KeyPairs.{LeadingZeros, Plain, WithoutZero, WithZero, Short, is_high, is_natural, at_width, short_scalar, scalar_whole, zero_if, scalar_bytes, scalar, IsScalar, HasScalarPlaces, RsaPrivate, SecurityPrivate, KeyPair, DsaPair, EcdsaPair, Ed25519Pair, RsaPair, SkEcdsaPair, SkEd25519Pair, OpaquePair, public_half, pair_algorithm, rsa_private, security_private, pair, IsRsaPrivate, IsEcdsaPair, HasPairPlaces, IsPairUnder, KeyPairChoices, plain_pair, IsKeyPair, HasKeyPairPlaces, keypair, scalar_alone, scalar_after_zero, after_zero, scalar_from, scalar_at, scalar_size, private_before, dsa_pair_from, ed25519_halves_from, security_pair_from, spelled_ecdsa_pair_from, any_ecdsa_pair_format, ecdsa_pair_format, rsa_private_at, security_private_format, pair_kind_format, plainly, any_ecdsa_pair_at, pair_at, keypair_at}
 use Rattle.sshkey_model.proofs.CombinedReaders.{bind_assoc, bind_ok, done, ok_is, chosen, met, passed, ReadsFront, ReadsWhole, all_reads, checked_whole_reads, Any, wide8, number_reads, string_reads, whole_reads, bytes_reads, box_reads, then_reads, checked_reads, to_form, kept, same_front, as_front_form}
 use Rattle.sshkey_model.proofs.NameReaders.{algorithm_reads}
 use Rattle.sshkey_model.proofs.MpintReaders.{mpint_reads}
 use Rattle.sshkey_model.proofs.PointReaders.{same_curve, curve_itself}
-use Rattle.sshkey_model.proofs.KeyReaders.{dsa_reads, any_ecdsa_reads, sk_ecdsa_reads, sk_ed25519_reads, ed25519_string_reads, split_head, join_head}
+use Rattle.sshkey_model.proofs.KeyReaders.{field_reads, body_reads, any_ecdsa_reads, split_head, join_head}
 
 -- ---- scalars
 
@@ -192,8 +193,28 @@ passes {B = B} {spelled = spelled} {Is = Is} {spell = spell} test there back = r
 abbrev plain_pair_parts : KeyPair → Parts
 plain_pair_parts k = pair k Plain
 
-dsa_pair_reads : ReadsFront (IsPairUnder Algorithm.Dsa) plain_pair_parts dsa_pair_format.read
-dsa_pair_reads = checked_reads (passes dsa_pair_from (λ a h. there a.0 a.1 h) back) (then_reads dsa_reads (λ _. mpint_reads))
+pub rsa_private_reads : ReadsFront IsRsaPrivate rsa_private rsa_private_at
+rsa_private_reads = checked_reads (to_form
+    (λ a. record { d = a.0; iqmp = a.1.0; p = a.1.1.0; q = a.1.1.1 })
+    (λ a h. ((h.0, h.1.0, h.1.1.0, h.1.1.1), refl))
+    (λ r h. ((r.d, (r.iqmp, (r.p, r.q))), (h.0, (h.1, (h.2, h.3))), refl, refl)))
+    (then_reads mpint_reads (λ _. then_reads mpint_reads (λ _. then_reads mpint_reads (λ _. mpint_reads))))
+
+pub security_private_reads : ReadsFront Any security_private security_private_format.read
+security_private_reads = checked_reads (to_form
+    (λ a. record { flags = a.0; handle = a.1.0; reserved = a.1.1 })
+    (λ a h. (tt, refl))
+    (λ r h. ((r.flags, (r.handle, r.reserved)), (tt, (tt, tt)), refl, refl)))
+    (then_reads (number_reads w8 wide8) (λ _. then_reads string_reads (λ _. string_reads)))
+
+-- not of ECDSA, whose scalars have choices
+abbrev IsPlain : Algorithm → Type 0
+IsPlain (Algorithm.Ecdsa c) = ⊥
+IsPlain _ = Unit {0}
+
+kind_reads : (a : Algorithm) → IsPlain a → ReadsFront (IsPairUnder a) plain_pair_parts (pair_kind_format a).read
+kind_reads (Algorithm.Ecdsa c) plain = absurd plain
+kind_reads Algorithm.Dsa plain = checked_reads (passes dsa_pair_from (λ a h. there a.0 a.1 h) back) (then_reads (body_reads Algorithm.Dsa) (λ _. mpint_reads))
   where
     there : (k : Key) (x : List ℕ) → IsBodyUnder Algorithm.Dsa k × IsMpint x → (p : KeyPair) × (dsa_pair_from (k, x) ≡ Ok p) × IsPairUnder Algorithm.Dsa p × (body k & string x ≡ pair p Plain)
     there (Dsa k) x h = (DsaPair k x, refl, (refl, (h.0.1, h.1)), refl)
@@ -202,12 +223,8 @@ dsa_pair_reads = checked_reads (passes dsa_pair_from (λ a h. there a.0 a.1 h) b
     back : (p : KeyPair) → IsPairUnder Algorithm.Dsa p → (a : Key × List ℕ) × (IsBodyUnder Algorithm.Dsa a.0 × IsMpint a.1) × (dsa_pair_from a ≡ Ok p) × (body a.0 & string a.1 ≡ pair p Plain)
     back (DsaPair k x) h = ((Dsa k, x), ((refl, h.1.0), h.1.1), refl, refl)
     back _ h = absurd (cc h.0)
-
--- ---- Ed25519
-
 -- 32 public bytes, and 64 whose second half they are
-ed25519_pair_reads : ReadsFront (IsPairUnder Algorithm.Ed25519) plain_pair_parts ed25519_pair_format.read
-ed25519_pair_reads = checked_reads (record { takes = there; again = back }) (then_reads ed25519_string_reads (λ _. box_reads (whole_reads (bytes_reads 64))))
+kind_reads Algorithm.Ed25519 plain = checked_reads (record { takes = there; again = back }) (then_reads (field_reads (Array 32)) (λ _. box_reads (whole_reads (bytes_reads 64))))
   where
     Are : List ℕ × List ℕ → Type 0
     Are a = HasLength 32 a.0 × HasLength 64 a.1
@@ -234,61 +251,27 @@ ed25519_pair_reads = checked_reads (record { takes = there; again = back }) (the
         let long : length (private ++ public) ≡ 64 = omega (arith, first, second, length-append private public) in
         ((public, private ++ public), (first, long), rw (drop_at private public 32 second, take_at private public 32 second, same) refl, refl)
     back _ h = absurd (cc h.0)
-
--- ---- RSA
-
-pub rsa_private_reads : ReadsFront IsRsaPrivate rsa_private rsa_private_at
-rsa_private_reads = checked_reads (to_form
-    (λ a. record { d = a.0; iqmp = a.1.0; p = a.1.1.0; q = a.1.1.1 })
-    (λ a h. ((h.0, h.1.0, h.1.1.0, h.1.1.1), refl))
-    (λ r h. ((r.d, (r.iqmp, (r.p, r.q))), (h.0, (h.1, (h.2, h.3))), refl, refl)))
-    (then_reads mpint_reads (λ _. then_reads mpint_reads (λ _. then_reads mpint_reads (λ _. mpint_reads))))
-
-rsa_pair_reads : (hash : Option Hash) → ReadsFront (IsPairUnder (Algorithm.Rsa hash)) plain_pair_parts rsa_pair_format.read
-rsa_pair_reads hash = checked_reads (to_form (λ a. RsaPair (record { e = a.1.0; n = a.0 }) a.1.1) (λ a h. ((refl, ((h.1.0, h.0), h.1.1)), refl)) back) (then_reads mpint_reads (λ _. then_reads mpint_reads (λ _. rsa_private_reads)))
+kind_reads (Algorithm.Rsa hash) plain = checked_reads (to_form (λ a. RsaPair (record { e = a.1.0; n = a.0 }) a.1.1) (λ a h. ((refl, ((h.1.0, h.0), h.1.1)), refl)) back) (then_reads mpint_reads (λ _. then_reads mpint_reads (λ _. rsa_private_reads)))
   where
     back : (p : KeyPair) → IsPairUnder (Algorithm.Rsa hash) p → (a : List ℕ × (List ℕ × RsaPrivate)) × (IsMpint a.0 × (IsMpint a.1.0 × IsRsaPrivate a.1.1)) × (RsaPair (record { e = a.1.0; n = a.0 }) a.1.1 ≡ p) × (string a.0 & string a.1.0 & rsa_private a.1.1 ≡ pair p Plain)
     back (RsaPair k r) h = ((k.n, (k.e, r)), (h.1.0.1, (h.1.0.0, h.1.1)), refl, refl)
     back _ h = absurd (cc h.0)
-
--- ---- keys that a security key holds
-
-pub security_private_reads : ReadsFront Any security_private security_private_format.read
-security_private_reads = checked_reads (to_form
-    (λ a. record { flags = a.0; handle = a.1.0; reserved = a.1.1 })
-    (λ a h. (tt, refl))
-    (λ r h. ((r.flags, (r.handle, r.reserved)), (tt, (tt, tt)), refl, refl)))
-    (then_reads (number_reads w8 wide8) (λ _. then_reads string_reads (λ _. string_reads)))
-
-sk_ecdsa_pair_reads : ReadsFront (IsPairUnder Algorithm.SkEcdsa) plain_pair_parts sk_ecdsa_pair_format.read
-sk_ecdsa_pair_reads = checked_reads (passes security_pair_from (λ a h. there a.0 a.1 h) back) (then_reads sk_ecdsa_reads (λ _. security_private_reads))
-  where
-    there : (k : Key) (r : SecurityPrivate) → IsBodyUnder Algorithm.SkEcdsa k × Any r → (p : KeyPair) × (security_pair_from (k, r) ≡ Ok p) × IsPairUnder Algorithm.SkEcdsa p × (body k & security_private r ≡ pair p Plain)
-    there (SkEcdsa k) r h = (SkEcdsaPair k r, refl, (refl, (h.0.1, tt)), refl)
-    there _ r h = absurd (cc h.0.0)
-
-    back : (p : KeyPair) → IsPairUnder Algorithm.SkEcdsa p → (a : Key × SecurityPrivate) × (IsBodyUnder Algorithm.SkEcdsa a.0 × Any a.1) × (security_pair_from a ≡ Ok p) × (body a.0 & security_private a.1 ≡ pair p Plain)
-    back (SkEcdsaPair k r) h = ((SkEcdsa k, r), ((refl, h.1.0), tt), refl, refl)
-    back _ h = absurd (cc h.0)
-
-sk_ed25519_pair_reads : ReadsFront (IsPairUnder Algorithm.SkEd25519) plain_pair_parts sk_ed25519_pair_format.read
-sk_ed25519_pair_reads = checked_reads (passes security_pair_from (λ a h. there a.0 a.1 h) back) (then_reads sk_ed25519_reads (λ _. security_private_reads))
-  where
-    there : (k : Key) (r : SecurityPrivate) → IsBodyUnder Algorithm.SkEd25519 k × Any r → (p : KeyPair) × (security_pair_from (k, r) ≡ Ok p) × IsPairUnder Algorithm.SkEd25519 p × (body k & security_private r ≡ pair p Plain)
-    there (SkEd25519 k) r h = (SkEd25519Pair k r, refl, (refl, (h.0.1, tt)), refl)
-    there _ r h = absurd (cc h.0.0)
-
-    back : (p : KeyPair) → IsPairUnder Algorithm.SkEd25519 p → (a : Key × SecurityPrivate) × (IsBodyUnder Algorithm.SkEd25519 a.0 × Any a.1) × (security_pair_from a ≡ Ok p) × (body a.0 & security_private a.1 ≡ pair p Plain)
-    back (SkEd25519Pair k r) h = ((SkEd25519 k, r), ((refl, h.1.0), tt), refl, refl)
-    back _ h = absurd (cc h.0)
-
--- ---- pairs of other algorithms
-
-opaque_pair_reads : (name : List ℕ) → ReadsFront (IsPairUnder (Algorithm.Other name)) plain_pair_parts (opaque_pair_format name).read
-opaque_pair_reads name = checked_reads (to_form (λ a. OpaquePair name a.0 a.1) (λ a h. ((refl, (tt, tt)), refl)) back) (then_reads string_reads (λ _. string_reads))
+kind_reads (Algorithm.Other name) plain = checked_reads (to_form (λ a. OpaquePair name a.0 a.1) (λ a h. ((refl, (tt, tt)), refl)) back) (then_reads string_reads (λ _. string_reads))
   where
     back : (p : KeyPair) → IsPairUnder (Algorithm.Other name) p → (a : List ℕ × List ℕ) × (Any a.0 × Any a.1) × (OpaquePair name a.0 a.1 ≡ p) × (string a.0 & string a.1 ≡ pair p Plain)
     back (OpaquePair n k r) h = ((k, r), (tt, tt), (let same : n ≡ name = cc h.0 in ap (λ (z : List ℕ). OpaquePair z k r) (sym same)), refl)
+    back _ h = absurd (cc h.0)
+-- a key that a security key holds
+kind_reads a plain = checked_reads (passes security_pair_from (λ x h. there x.0 x.1 h) back) (then_reads (body_reads a) (λ _. security_private_reads))
+  where
+    there : (k : Key) (r : SecurityPrivate) → IsBodyUnder a k × Any r → (p : KeyPair) × (security_pair_from (k, r) ≡ Ok p) × IsPairUnder a p × (body k & security_private r ≡ pair p Plain)
+    there (SkEcdsa k) r h = (SkEcdsaPair k r, refl, (h.0.0, (h.0.1, tt)), refl)
+    there (SkEd25519 k) r h = (SkEd25519Pair k r, refl, (h.0.0, (h.0.1, tt)), refl)
+    there _ r h = absurd (cc h.0.0)
+
+    back : (p : KeyPair) → IsPairUnder a p → (x : Key × SecurityPrivate) × (IsBodyUnder a x.0 × Any x.1) × (security_pair_from x ≡ Ok p) × (body x.0 & security_private x.1 ≡ pair p Plain)
+    back (SkEcdsaPair k r) h = ((SkEcdsa k, r), ((h.0, h.1.0), tt), refl, refl)
+    back (SkEd25519Pair k r) h = ((SkEd25519 k, r), ((h.0, h.1.0), tt), refl, refl)
     back _ h = absurd (cc h.0)
 
 -- ---- ECDSA
@@ -319,12 +302,13 @@ plain_pair_has (EcdsaPair c point s) = tt
 plain_pair_has _ = refl
 
 -- only a pair of ECDSA has choices
-only_plain : (a : Algorithm) → ((c : Curve) → unhashed a ≡ Algorithm.Ecdsa c → ⊥) → (k : KeyPair) (zeros : LeadingZeros) → IsPairUnder a k → HasPairPlaces k zeros → zeros ≡ Plain
-only_plain a other (EcdsaPair c p s) zeros is place = absurd (other c (sym is.0))
-only_plain a other _ zeros is place = place
+only_plain : (a : Algorithm) → IsPlain a → (k : KeyPair) (zeros : LeadingZeros) → IsPairUnder a k → HasPairPlaces k zeros → zeros ≡ Plain
+only_plain (Algorithm.Ecdsa c) plain k zeros is place = absurd plain
+only_plain _ plain (EcdsaPair c p s) zeros is place = absurd (cc is.0)
+only_plain a plain _ zeros is place = place
 
-plain_reads : (a : Algorithm) (f : Format KeyPair) → ((c : Curve) → unhashed a ≡ Algorithm.Ecdsa c → ⊥) → ReadsFront (IsPairUnder a) plain_pair_parts f.read → ReadsFront (IsSpelledUnder a) (spelled pair) (plainly f).read
-plain_reads a f other reads = checked_reads (to_form (λ k. (k, Plain)) (λ k is. (record { is = is; place = plain_pair_has k }, refl)) (λ x h. back x.0 x.1 h.is (only_plain a other x.0 x.1 h.is h.place))) reads
+plain_reads : (a : Algorithm) → IsPlain a → ReadsFront (IsSpelledUnder a) (spelled pair) (plainly (pair_kind_format a)).read
+plain_reads a plain = checked_reads (to_form (λ k. (k, Plain)) (λ k is. (record { is = is; place = plain_pair_has k }, refl)) (λ x h. back x.0 x.1 h.is (only_plain a plain x.0 x.1 h.is h.place))) (kind_reads a plain)
   where
     back : (k : KeyPair) (zeros : LeadingZeros) → IsPairUnder a k → zeros ≡ Plain → (p : KeyPair) × IsPairUnder a p × (◌≡◌ {A = KeyPair × LeadingZeros} (p, Plain) (k, zeros)) × (pair p Plain ≡ pair k zeros)
     back k zeros is e = (k, is, ap (λ (z : LeadingZeros). (k, z)) (sym e), ap (pair k) (sym e))
@@ -342,13 +326,8 @@ ecdsa_pair_reads c = as_front_form (λ x h. record { is = there x.0 h.0.is h.1; 
     back _ h = absurd (cc h.0)
 
 pub pair_reads : (a : Algorithm) → ReadsFront (IsSpelled (IsPairUnder a) HasPairPlaces) (spelled pair) (pair_at a)
-pair_reads Algorithm.Dsa = plain_reads Algorithm.Dsa dsa_pair_format (λ c e. cc e) dsa_pair_reads
 pair_reads (Algorithm.Ecdsa c) = ecdsa_pair_reads c
-pair_reads Algorithm.Ed25519 = plain_reads Algorithm.Ed25519 ed25519_pair_format (λ c e. cc e) ed25519_pair_reads
-pair_reads (Algorithm.Rsa hash) = plain_reads (Algorithm.Rsa hash) rsa_pair_format (λ c e. cc e) (rsa_pair_reads hash)
-pair_reads Algorithm.SkEcdsa = plain_reads Algorithm.SkEcdsa sk_ecdsa_pair_format (λ c e. cc e) sk_ecdsa_pair_reads
-pair_reads Algorithm.SkEd25519 = plain_reads Algorithm.SkEd25519 sk_ed25519_pair_format (λ c e. cc e) sk_ed25519_pair_reads
-pair_reads (Algorithm.Other name) = plain_reads (Algorithm.Other name) (opaque_pair_format name) (λ c e. cc e) (opaque_pair_reads name)
+pair_reads a = plain_reads a tt
 
 -- ---- the name before it
 
@@ -401,9 +380,4 @@ ecdsa_pair_value wanted b = rw (← any_ecdsa_pair_value b) (go (any_ecdsa_pair_
 
 pub pair_value : (a : Algorithm) (b : List ℕ) → value_at (pair_at a) b ≡ (pair_kind_format a).read b
 pair_value (Algorithm.Ecdsa c) b = ecdsa_pair_value c b
-pair_value Algorithm.Dsa b = plain_value dsa_pair_format b
-pair_value Algorithm.Ed25519 b = plain_value ed25519_pair_format b
-pair_value (Algorithm.Rsa hash) b = plain_value rsa_pair_format b
-pair_value Algorithm.SkEcdsa b = plain_value sk_ecdsa_pair_format b
-pair_value Algorithm.SkEd25519 b = plain_value sk_ed25519_pair_format b
-pair_value (Algorithm.Other name) b = plain_value (opaque_pair_format name) b
+pair_value a b = plain_value (pair_kind_format a) b

@@ -1,57 +1,43 @@
 -- Public keys are read as they are spelled.
-use Rattle.std.proofs.Common.{◌≡◌, ℕ, Option, Some, true, List, Ok, refl, sym, ap, subst, ◌∙◌}
-use Rattle.sshkey_model.specs.Parts.{◌&◌, HasLength}
+use Rattle.std.proofs.Common.{◌≡◌, ℕ, Some, true, List, Ok, refl, sym, ap, subst, ◌∙◌}
+use Rattle.sshkey_model.specs.Parts.{◌&◌}
 use Rattle.sshkey_model.specs.Reading.{AlgorithmUnknown}
 use Rattle.sshkey_model.specs.Grammar.{IsSpelled, spelled, Checks}
-use Rattle.sshkey_model.specs.Texts.{string, IsText}
-use Rattle.sshkey_model.specs.Names.{Curve, Nistp256, Hash, Sha256, Sha512, Algorithm, IsAlgorithm, algorithm, curve}
-use Rattle.sshkey_model.specs.Leaves.{array_format}
-use Rattle.sshkey_model.specs.Mpints.{IsMpint}
-use Rattle.sshkey_model.specs.Points.{IsPoint, curve_eq, of_curve, IsPointOf}
-use Rattle.sshkey_model.specs.Keys.{Key, Dsa, Ecdsa, Ed25519, Rsa, SkEcdsa, SkEd25519, Opaque, key_algorithm, body, IsKey, key, HasKeyPlaces, dsa_format, any_ecdsa_format, ecdsa_format, ecdsa_key_from, ed25519_format, rsa_format, sk_ecdsa_format, sk_ed25519_format, kind_format, p256_only, has_curve, IsEcdsa, Head, Plain, headed, HasHead, head_of, key_at, unhashed, IsBodyUnder}
+use Rattle.sshkey_model.specs.Texts.{string}
+use Rattle.sshkey_model.specs.Names.{Curve, Nistp256, Sha256, Sha512, Algorithm, IsAlgorithm, algorithm, curve}
+use Rattle.sshkey_model.specs.Points.{curve_eq, of_curve, IsPointOf}
+use Rattle.sshkey_model.specs.Rows.{Field, Mpint, Text, Bytes, Array, Point, IsField, field_format, Row, Last, ◌before◌, Fields, AreFields, fields, fields_format}
+use Rattle.sshkey_model.specs.Keys.{Key, Dsa, Ecdsa, key_algorithm, kind, of_fields, with_curve, body, IsBody, IsKey, key, HasKeyPlaces, key_from, any_ecdsa_format, ecdsa_format, ecdsa_key_from, kind_format, p256_only, has_curve, IsEcdsa, Head, Plain, headed, HasHead, head_of, key_at, unhashed, IsBodyUnder}
 use Rattle.sshkey_model.proofs.CombinedReaders.{bind_ok, done, ok_is, met, ReadsFront, Any, whole_reads, bytes_reads, string_reads, box_reads, then_reads, checked_reads, checked_string_reads, to_form, kept, as_front_form}
 use Rattle.sshkey_model.proofs.NameReaders.{curve_reads, algorithm_reads}
 use Rattle.sshkey_model.proofs.TextReaders.{text_reads}
 use Rattle.sshkey_model.proofs.MpintReaders.{mpint_reads}
-use Rattle.sshkey_model.proofs.PointReaders.{same_curve, curve_itself, point_reads, p256_point_checks}
+use Rattle.sshkey_model.proofs.PointReaders.{same_curve, curve_itself, point_reads, curve_point_checks}
 
-pub rsa_reads : (hash : Option Hash) → ReadsFront (IsBodyUnder (Algorithm.Rsa hash)) body rsa_format.read
-rsa_reads hash = checked_reads (to_form (λ p. Rsa (record { e = p.0; n = p.1 })) (λ a h. ((refl, h), refl)) back) (then_reads mpint_reads (λ _. mpint_reads))
-  where
-    back : (k : Key) → IsBodyUnder (Algorithm.Rsa hash) k → (a : List ℕ × List ℕ) × (IsMpint a.0 × IsMpint a.1) × (Rsa (record { e = a.0; n = a.1 }) ≡ k) × (string a.0 & string a.1 ≡ body k)
-    back (Rsa k) h = ((k.e, k.n), h.1, refl, refl)
-    back _ h = absurd (cc h.0)
+-- ---- rows
 
-pub dsa_reads : ReadsFront (IsBodyUnder Algorithm.Dsa) body dsa_format.read
-dsa_reads = checked_reads (to_form (λ a. Dsa (record { p = a.0; q = a.1.0; g = a.1.1.0; y = a.1.1.1 })) (λ a h. ((refl, (h.0, h.1.0, h.1.1.0, h.1.1.1)), refl)) back) (then_reads mpint_reads (λ _. then_reads mpint_reads (λ _. then_reads mpint_reads (λ _. mpint_reads))))
-  where
-    back : (k : Key) → IsBodyUnder Algorithm.Dsa k → (a : List ℕ × (List ℕ × (List ℕ × List ℕ))) × (IsMpint a.0 × (IsMpint a.1.0 × (IsMpint a.1.1.0 × IsMpint a.1.1.1))) × (Dsa (record { p = a.0; q = a.1.0; g = a.1.1.0; y = a.1.1.1 }) ≡ k) × (string a.0 & string a.1.0 & string a.1.1.0 & string a.1.1.1 ≡ body k)
-    back (Dsa k) h = ((k.p, (k.q, (k.g, k.y))), (h.1.0, (h.1.1, (h.1.2, h.1.3))), refl, refl)
-    back _ h = absurd (cc h.0)
+pub field_reads : (f : Field) → ReadsFront (IsField f) string (field_format f).read
+field_reads Mpint = mpint_reads
+field_reads Text = text_reads
+field_reads Bytes = string_reads
+field_reads (Array n) = box_reads (whole_reads (bytes_reads n))
+field_reads (Point c) = checked_string_reads (curve_point_checks c)
 
-pub ed25519_string_reads : ReadsFront (HasLength 32) string (array_format 32).read
-ed25519_string_reads = box_reads (whole_reads (bytes_reads 32))
+fields_reads : (r : Row) → ReadsFront (AreFields r) (fields r) (fields_format r).read
+fields_reads (Last f) = field_reads f
+fields_reads (f before r) = then_reads (field_reads f) (λ _. fields_reads r)
 
-pub ed25519_reads : ReadsFront (IsBodyUnder Algorithm.Ed25519) body ed25519_format.read
-ed25519_reads = checked_reads (to_form Ed25519 (λ a h. ((refl, h), refl)) back) ed25519_string_reads
-  where
-    back : (k : Key) → IsBodyUnder Algorithm.Ed25519 k → (a : List ℕ) × HasLength 32 a × (Ed25519 a ≡ k) × (string a ≡ body k)
-    back (Ed25519 k) h = (k, h.1, refl, refl)
-    back _ h = absurd (cc h.0)
+abbrev Made : Key → Algorithm → Type 0
+Made k a = (x : Fields (kind a).row) × AreFields (kind a).row x × ((kind a).key x ≡ k) × (with_curve a (fields (kind a).row x) ≡ body k)
 
-pub sk_ed25519_reads : ReadsFront (IsBodyUnder Algorithm.SkEd25519) body sk_ed25519_format.read
-sk_ed25519_reads = checked_reads (to_form (λ a. SkEd25519 (record { key = a.0; application = a.1 })) (λ a h. ((refl, h), refl)) back) (then_reads ed25519_string_reads (λ _. text_reads))
-  where
-    back : (k : Key) → IsBodyUnder Algorithm.SkEd25519 k → (a : List ℕ × List ℕ) × (HasLength 32 a.0 × IsText a.1) × (SkEd25519 (record { key = a.0; application = a.1 }) ≡ k) × (string a.0 & string a.1 ≡ body k)
-    back (SkEd25519 k) h = ((k.key, k.application), h.1, refl, refl)
-    back _ h = absurd (cc h.0)
+-- a key is made of its strings
+own_key : (k : Key) → IsBody k → Made k (key_algorithm k)
+own_key (Dsa k) h = ((k.p, (k.q, (k.g, k.y))), h, refl, refl)
+own_key k h = ((of_fields {R = (a : Algorithm) × Fields (kind a).row} (λ a x. (a, x)) k).1, h, refl, refl)
 
-pub opaque_reads : (name : List ℕ) → ReadsFront (IsBodyUnder (Algorithm.Other name)) body (kind_format (Algorithm.Other name)).read
-opaque_reads name = checked_reads (to_form (Opaque name) (λ a h. ((refl, tt), refl)) back) string_reads
-  where
-    back : (k : Key) → IsBodyUnder (Algorithm.Other name) k → (a : List ℕ) × Any a × (Opaque name a ≡ k) × (string a ≡ body k)
-    back (Opaque n k) h = (k, tt, (let same : n ≡ name = cc h.0 in ap (λ (z : List ℕ). Opaque z k) (sym same)), refl)
-    back _ h = absurd (cc h.0)
+row_checks : (a : Algorithm) → Checks (AreFields (kind a).row) (λ x. with_curve a (fields (kind a).row x)) (IsBodyUnder a) body (key_from a)
+row_checks Algorithm.Dsa = to_form (kind Algorithm.Dsa).key (λ x h. ((refl, h), refl)) (λ k h. subst (Made k) h.0 (own_key k h.1))
+row_checks a = to_form (kind a).key (λ x h. ((refl, h), refl)) (λ k h. subst (Made k) h.0 (own_key k h.1))
 
 ecdsa_checks : Checks (λ a. Any a.0 × IsPointOf a.1) (λ a. curve a.0 & string a.1.1) IsEcdsa body ecdsa_key_from
 ecdsa_checks = record { takes = there; again = back }
@@ -88,21 +74,16 @@ p256_checks = record { takes = λ a b was e. only a b e; again = λ b is. (Nistp
     only Nistp256 b e = (sym (ok_is Nistp256 b e), refl)
     only _ b e = absurd cc
 
-pub sk_ecdsa_reads : ReadsFront (IsBodyUnder Algorithm.SkEcdsa) body sk_ecdsa_format.read
-sk_ecdsa_reads = checked_reads (to_form (λ a. SkEcdsa (record { key = a.1.0; application = a.1.1 })) (λ a h. ((refl, h.1), refl)) back) (then_reads (checked_reads p256_checks curve_reads) (λ _. then_reads (checked_string_reads p256_point_checks) (λ _. text_reads)))
-  where
-    back : (k : Key) → IsBodyUnder Algorithm.SkEcdsa k → (a : Curve × (List ℕ × List ℕ)) × ((a.0 ≡ Nistp256) × (IsPoint Nistp256 a.1.0 × IsText a.1.1)) × (SkEcdsa (record { key = a.1.0; application = a.1.1 }) ≡ k) × (curve Nistp256 & string a.1.0 & string a.1.1 ≡ body k)
-    back (SkEcdsa k) h = ((Nistp256, (k.key, k.application)), (refl, h.1), refl, refl)
-    back _ h = absurd (cc h.0)
+sk_ecdsa_checks : Checks {A = Curve × Fields (kind Algorithm.SkEcdsa).row} (λ a. (a.0 ≡ Nistp256) × AreFields (kind Algorithm.SkEcdsa).row a.1) (λ a. curve Nistp256 & fields (kind Algorithm.SkEcdsa).row a.1) (IsBodyUnder Algorithm.SkEcdsa) body (λ x. key_from Algorithm.SkEcdsa x.1)
+sk_ecdsa_checks = record {
+  takes = λ a k was e. (row_checks Algorithm.SkEcdsa).takes a.1 k was.1 e;
+  again = λ k is. let x = (row_checks Algorithm.SkEcdsa).again k is in ((Nistp256, x.0), (refl, x.1), x.2, x.3);
+}
 
 pub body_reads : (a : Algorithm) → ReadsFront (IsBodyUnder a) body (kind_format a).read
-body_reads Algorithm.Dsa = dsa_reads
 body_reads (Algorithm.Ecdsa c) = ecdsa_reads c
-body_reads Algorithm.Ed25519 = ed25519_reads
-body_reads (Algorithm.Rsa hash) = rsa_reads hash
-body_reads Algorithm.SkEcdsa = sk_ecdsa_reads
-body_reads Algorithm.SkEd25519 = sk_ed25519_reads
-body_reads (Algorithm.Other name) = opaque_reads name
+body_reads Algorithm.SkEcdsa = checked_reads sk_ecdsa_checks (then_reads (checked_reads p256_checks curve_reads) (λ _. fields_reads (kind Algorithm.SkEcdsa).row))
+body_reads a = checked_reads (row_checks a) (fields_reads (kind a).row)
 
 -- ---- keys
 

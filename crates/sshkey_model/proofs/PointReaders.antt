@@ -2,12 +2,12 @@
 use Rattle.std.proofs.Common.{◌≡◌, ℕ, ◌+◌, ◌*◌, ◌/◌, ◌%◌, ◌≤◌, true, false, cond, eqb, ltb, List, [], ◌∷◌, length, Ok, Err, refl, subst, arith, inl, inr, ◌&&◌, ◌||◌}
 use Rattle.std.proofs.lemmas.Bool.{and_parts, and_from, or_cases, or_left, or_right, eqb-true, eq-eqb, le-ltb}
 use Rattle.sshkey_model.specs.Parts.{bytes}
-use Rattle.sshkey_model.specs.Reading.{Length, Ecdsa, ◌>>=◌}
+use Rattle.sshkey_model.specs.Reading.{Length, AlgorithmUnknown, Ecdsa, ◌>>=◌, checked_at}
 use Rattle.sshkey_model.specs.Texts.{string}
 use Rattle.sshkey_model.specs.Names.{Curve, Nistp256, Nistp384, Nistp521}
-use Rattle.sshkey_model.specs.Points.{field_size, is_point, IsPoint, curve_eq, curve_of_size, point_curve, point_from, p256_point_from, IsPointOf, point_format}
+use Rattle.sshkey_model.specs.Points.{field_size, is_point, IsPoint, curve_eq, of_curve, curve_of_size, point_curve, point_from, curve_point_from, IsPointOf, point_format}
 use Rattle.sshkey_model.specs.Grammar.{Checks}
-use Rattle.sshkey_model.proofs.CombinedReaders.{bind_ok, ok_is, done, passed, chosen, ReadsFront, Any, kept_bytes, checked_string_reads}
+use Rattle.sshkey_model.proofs.CombinedReaders.{bind_ok, ok_is, done, passed, chosen, ReadsFront, Any, kept, kept_bytes, checked_reads, checked_string_reads}
 
 sized : (n : ℕ) (c : Curve) → curve_of_size n ≡ Ok c → n ≡ field_size c
 sized n c e =
@@ -96,17 +96,21 @@ pub curve_itself : (c : Curve) → curve_eq c c ≡ true
 curve_itself Nistp256 = refl
 curve_itself _ = refl
 
-pub p256_point_checks : Checks Any bytes (IsPoint Nistp256) bytes p256_point_from
-p256_point_checks = record { takes = there; again = back }
+pub curve_point_checks : (c : Curve) → Checks Any bytes (IsPoint c) bytes (curve_point_from c)
+curve_point_checks c = record { takes = there; again = back }
   where
-    there : (b x : List ℕ) → Any b → p256_point_from b ≡ Ok x → (is_point 32 x ≡ true) × (bytes b ≡ bytes x)
-    there b x was e = (kept_bytes (is_point 32) Ecdsa).takes b x tt (passed (ltb 65 (length b)) Length (cond (is_point 32 b) (done b) (Err Ecdsa)) x e).1
+    there : (b x : List ℕ) → Any b → curve_point_from c b ≡ Ok x → IsPoint c x × (bytes b ≡ bytes x)
+    there b x was e = (kept_bytes (is_point (field_size c)) Ecdsa).takes b x tt (passed (ltb (1 + 2 * field_size c) (length b)) Length (cond (is_point (field_size c) b) (done b) (Err Ecdsa)) x e).1
 
-    back : (x : List ℕ) → is_point 32 x ≡ true → (b : List ℕ) × Any b × (p256_point_from b ≡ Ok x) × (bytes b ≡ bytes x)
+    back : (x : List ℕ) → IsPoint c x → (b : List ℕ) × Any b × (curve_point_from c b ≡ Ok x) × (bytes b ≡ bytes x)
     back x is =
-        let a = point_again x Nistp256 is in
-        let small : ltb 65 (length x) ≡ false = le-ltb _ _ (omega arith) in
+        let a = point_again x c is in
+        let small : ltb (1 + 2 * field_size c) (length x) ≡ false = le-ltb _ _ a.1 in
         (x, tt, rw (small, is) refl, refl)
 
 pub point_reads : ReadsFront IsPointOf (λ x. string x.1) point_format.read
 point_reads = checked_string_reads point_checks
+
+-- a point string of the stated curve
+pub of_curve_reads : (stated : Curve) → ReadsFront (λ x. IsPointOf x × (curve_eq x.0 stated ≡ true)) (λ x. string x.1) (checked_at (of_curve stated) point_format.read)
+of_curve_reads stated = checked_reads (kept (λ x. curve_eq x.0 stated) AlgorithmUnknown) point_reads

@@ -116,9 +116,7 @@ IsPrivateHalf (DsaPair k x) = IsMpint x
 IsPrivateHalf (EcdsaPair c point s) = IsScalar (field_size c) s
 IsPrivateHalf (Ed25519Pair public private) = length private ≡ 32
 IsPrivateHalf (RsaPair k r) = IsRsaPrivate r
-IsPrivateHalf (SkEcdsaPair k r) = Unit {0}
-IsPrivateHalf (SkEd25519Pair k r) = Unit {0}
-IsPrivateHalf (OpaquePair name public private) = Unit {0}
+IsPrivateHalf _ = Unit {0}
 
 abbrev pub IsPairBody : KeyPair → Type 0
 IsPairBody k = IsBody (public_half k) × IsPrivateHalf k

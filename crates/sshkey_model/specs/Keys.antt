@@ -1,15 +1,13 @@
 -- Public keys (RFC 4253, section 6.6; RFC 5656, section 3.1; RFC 8709, section 4; PROTOCOL.u2f).
-use Rattle.std.specs.Prelude.{◌≡◌, ℕ, List, length, Bool, false, Some, None, Result, Ok, Err, if◌then◌else◌}
+use Rattle.std.specs.Prelude.{◌≡◌, ℕ, List, Bool, false, Some, None, Result, Ok, Err, if◌then◌else◌}
 use Rattle.sshkey_model.specs.Parts.{Parts, ◌&◌}
 use Rattle.sshkey_model.specs.Reading.{Fault, AlgorithmUnknown, Crypto, ◌>>=◌, Front}
 use Rattle.sshkey_model.specs.Grammar.{Spells, SpellsAs, SpellsWith}
 use Rattle.sshkey_model.specs.Formats.{Format}
-use Rattle.sshkey_model.specs.Leaves.{array_format, string_format}
 use Rattle.sshkey_model.specs.Terms.{◌then◌, called, dependent, known_as, tested, without_memory}
-use Rattle.sshkey_model.specs.Texts.{string, IsText, text_format}
 use Rattle.sshkey_model.specs.Names.{Curve, Nistp256, Sha256, Sha512, Algorithm, IsAlgorithm, algorithm, curve, curve_format, name_format}
-use Rattle.sshkey_model.specs.Mpints.{IsMpint, mpint_format}
-use Rattle.sshkey_model.specs.Points.{IsPoint, curve_eq, of_curve, point_format, p256_point_format}
+use Rattle.sshkey_model.specs.Points.{IsPoint, curve_eq, of_curve, point_format}
+use Rattle.sshkey_model.specs.Rows.{Mpint, Text, Bytes, Array, Point, Row, Last, ◌before◌, Fields, AreFields, fields, fields_format}
 
 pub record DsaKey : Type 0 where
   pub p : List ℕ
@@ -35,33 +33,48 @@ pub data Key : Type 0 where
   SkEcdsa SkEd25519 : SecurityKey → Key
   Opaque : List ℕ → List ℕ → Key
 
+-- What follows a name: strings, and the key that has them.
+pub record Kind : Type 0 where
+  pub row : Row
+  pub key : Fields row → Key
+
+-- DSA: p, q, g and y; RSA: e and n (RFC 4253, section 6.6). ECDSA: a point (RFC 5656, section 3.1).
+-- Ed25519: 32 bytes (RFC 8709, section 4). A security key: one of these two, and the application
+-- (PROTOCOL.u2f). Any other: one string.
+abbrev pub kind : Algorithm → Kind
+kind Algorithm.Dsa = record { row = Mpint before Mpint before Mpint before Last Mpint; key = λ x. Dsa (record { p = x.0; q = x.1.0; g = x.1.1.0; y = x.1.1.1 }) }
+kind (Algorithm.Ecdsa c) = record { row = Last (Point c); key = Ecdsa c }
+kind Algorithm.Ed25519 = record { row = Last (Array 32); key = Ed25519 }
+kind (Algorithm.Rsa hash) = record { row = Mpint before Last Mpint; key = λ x. Rsa (record { e = x.0; n = x.1 }) }
+kind Algorithm.SkEcdsa = record { row = Point Nistp256 before Last Text; key = λ x. SkEcdsa (record { key = x.0; application = x.1 }) }
+kind Algorithm.SkEd25519 = record { row = Array 32 before Last Text; key = λ x. SkEd25519 (record { key = x.0; application = x.1 }) }
+kind (Algorithm.Other name) = record { row = Last Bytes; key = Opaque name }
+
+-- what is made of the algorithm of a key and of its strings
+abbrev pub of_fields {ℓ} : {R : Type ℓ} → ((a : Algorithm) → Fields (kind a).row → R) → Key → R
+of_fields f (Dsa k) = f Algorithm.Dsa (k.p, (k.q, (k.g, k.y)))
+of_fields f (Ecdsa c point) = f (Algorithm.Ecdsa c) point
+of_fields f (Ed25519 k) = f Algorithm.Ed25519 k
+of_fields f (Rsa k) = f (Algorithm.Rsa None) (k.e, k.n)
+of_fields f (SkEcdsa k) = f Algorithm.SkEcdsa (k.key, k.application)
+of_fields f (SkEd25519 k) = f Algorithm.SkEd25519 (k.key, k.application)
+of_fields f (Opaque name k) = f (Algorithm.Other name) k
+
 abbrev pub key_algorithm : Key → Algorithm
-key_algorithm (Dsa k) = Algorithm.Dsa
-key_algorithm (Ecdsa c point) = Algorithm.Ecdsa c
-key_algorithm (Ed25519 k) = Algorithm.Ed25519
-key_algorithm (Rsa k) = Algorithm.Rsa None
-key_algorithm (SkEcdsa k) = Algorithm.SkEcdsa
-key_algorithm (SkEd25519 k) = Algorithm.SkEd25519
-key_algorithm (Opaque name k) = Algorithm.Other name
+key_algorithm = of_fields (λ a x. a)
+
+-- The name of its curve stands before a point (RFC 5656, section 3.1; PROTOCOL.u2f).
+abbrev pub with_curve : Algorithm → Parts → Parts
+with_curve (Algorithm.Ecdsa c) p = curve c & p
+with_curve Algorithm.SkEcdsa p = curve Nistp256 & p
+with_curve _ p = p
 
 -- what follows the name
 abbrev pub body : Key → Parts
-body (Dsa k) = string k.p & string k.q & string k.g & string k.y
-body (Ecdsa c point) = curve c & string point
-body (Ed25519 k) = string k
-body (Rsa k) = string k.e & string k.n
-body (SkEcdsa k) = curve Nistp256 & string k.key & string k.application
-body (SkEd25519 k) = string k.key & string k.application
-body (Opaque name k) = string k
+body = of_fields (λ a x. with_curve a (fields (kind a).row x))
 
 abbrev pub IsBody : Key → Type 0
-IsBody (Dsa k) = IsMpint k.p × IsMpint k.q × IsMpint k.g × IsMpint k.y
-IsBody (Ecdsa c point) = IsPoint c point
-IsBody (Ed25519 k) = length k ≡ 32
-IsBody (Rsa k) = IsMpint k.e × IsMpint k.n
-IsBody (SkEcdsa k) = IsPoint Nistp256 k.key × IsText k.application
-IsBody (SkEd25519 k) = (length k.key ≡ 32) × IsText k.application
-IsBody (Opaque name k) = Unit {0}
+IsBody = of_fields (λ a x. AreFields (kind a).row x)
 
 -- ---- the name before it
 
@@ -110,31 +123,26 @@ abbrev pub IsEcdsa : Key → Type 0
 IsEcdsa (Ecdsa c point) = IsPoint c point
 IsEcdsa _ = ⊥
 
--- ---- what follows each name
+-- ---- what follows each name is read
 
-abbrev pub dsa_key_from : List ℕ × (List ℕ × (List ℕ × List ℕ)) → Result Key Fault
-dsa_key_from a = Ok (Dsa (record { p = a.0; q = a.1.0; g = a.1.1.0; y = a.1.1.1 }))
+abbrev pub key_from : (a : Algorithm) → Fields (kind a).row → Result Key Fault
+key_from a x = Ok ((kind a).key x)
+
+-- where no name of a curve stands before
+abbrev pub row_format : Algorithm → Format Key
+row_format a = tested (key_from a) (fields_format (kind a).row)
 
 abbrev pub dsa_format : Format Key
-dsa_format = tested dsa_key_from (mpint_format then mpint_format then mpint_format then mpint_format)
-
-abbrev pub rsa_key_from : List ℕ × List ℕ → Result Key Fault
-rsa_key_from a = Ok (Rsa (record { e = a.0; n = a.1 }))
+dsa_format = row_format Algorithm.Dsa
 
 abbrev pub rsa_format : Format Key
-rsa_format = tested rsa_key_from (mpint_format then mpint_format)
-
-abbrev pub ed25519_key_from : List ℕ → Result Key Fault
-ed25519_key_from b = Ok (Ed25519 b)
+rsa_format = row_format (Algorithm.Rsa None)
 
 abbrev pub ed25519_format : Format Key
-ed25519_format = tested ed25519_key_from (array_format 32)
-
-abbrev pub sk_ed25519_key_from : List ℕ × List ℕ → Result Key Fault
-sk_ed25519_key_from a = Ok (SkEd25519 (record { key = a.0; application = a.1 }))
+ed25519_format = row_format Algorithm.Ed25519
 
 abbrev pub sk_ed25519_format : Format Key
-sk_ed25519_format = tested sk_ed25519_key_from (array_format 32 then text_format)
+sk_ed25519_format = row_format Algorithm.SkEd25519
 
 -- the point, where it is one of the stated curve
 abbrev pub ecdsa_key_from : Curve × (Curve × List ℕ) → Result Key Fault
@@ -167,23 +175,13 @@ p256_only _ = Err Crypto
 abbrev pub p256_name_format : Format Curve
 p256_name_format = tested p256_only curve_format
 
-abbrev pub sk_ecdsa_key_from : Curve × (List ℕ × List ℕ) → Result Key Fault
-sk_ecdsa_key_from a = Ok (SkEcdsa (record { key = a.1.0; application = a.1.1 }))
-
 abbrev pub sk_ecdsa_format : Format Key
-sk_ecdsa_format = tested sk_ecdsa_key_from (p256_name_format then p256_point_format then text_format)
-
-abbrev pub opaque_key_from : List ℕ → List ℕ → Result Key Fault
-opaque_key_from name b = Ok (Opaque name b)
+sk_ecdsa_format = tested (λ x. key_from Algorithm.SkEcdsa x.1) (p256_name_format then fields_format (kind Algorithm.SkEcdsa).row)
 
 abbrev pub kind_format : Algorithm → Format Key
-kind_format Algorithm.Dsa = dsa_format
 kind_format (Algorithm.Ecdsa c) = ecdsa_format c
-kind_format Algorithm.Ed25519 = ed25519_format
-kind_format (Algorithm.Rsa hash) = rsa_format
 kind_format Algorithm.SkEcdsa = sk_ecdsa_format
-kind_format Algorithm.SkEd25519 = sk_ed25519_format
-kind_format (Algorithm.Other name) = tested (opaque_key_from name) string_format
+kind_format a = row_format a
 
 abbrev pub body_at : Algorithm → Front Key
 body_at a = (kind_format a).read

@@ -15,6 +15,7 @@ pub mod Names
 pub mod CertificateNames
 pub mod Mpints
 pub mod Points
+pub mod Rows
 pub mod Keys
 pub mod Signatures
 pub mod Options

@@ -1,5 +1,5 @@
 -- Points of an elliptic curve (SEC 1, section 2.3.3; RFC 5656, section 3.1).
-use Rattle.std.specs.Prelude.{◌≡◌, ℕ, ◌*◌, ◌/◌, ◌%◌, List, [], ◌∷◌, length, Bool, true, false, ◌&&◌, ◌||◌, Result, Ok, Err, nat_lt, ◌==◌, if◌then◌else◌}
+use Rattle.std.specs.Prelude.{◌≡◌, ℕ, ◌+◌, ◌*◌, ◌/◌, ◌%◌, List, [], ◌∷◌, length, Bool, true, false, ◌&&◌, ◌||◌, Result, Ok, Err, nat_lt, ◌==◌, if◌then◌else◌}
 use Rattle.sshkey_model.specs.Reading.{Fault, Length, AlgorithmUnknown, Ecdsa, ◌>>=◌, Whole}
 use Rattle.sshkey_model.specs.Names.{Curve, Nistp256, Nistp384, Nistp521}
 use Rattle.sshkey_model.specs.Formats.{Format}
@@ -53,12 +53,18 @@ point_from b = if nat_lt 133 (length b) then Err Length else (point_curve b >>= 
 abbrev pub point_format : Format (Curve × List ℕ)
 point_format = without_memory (tested point_from string_format)
 
--- a point string of P-256
+-- a point string of that curve
+abbrev pub curve_point_from : Curve → Whole (List ℕ)
+curve_point_from c b = if nat_lt (1 + 2 * field_size c) (length b) then Err Length else if is_point (field_size c) b then Ok b else Err Ecdsa
+
+abbrev pub curve_point_format : Curve → Format (List ℕ)
+curve_point_format c = without_memory (tested (curve_point_from c) string_format)
+
 abbrev pub p256_point_from : Whole (List ℕ)
-p256_point_from b = if nat_lt 65 (length b) then Err Length else if is_point 32 b then Ok b else Err Ecdsa
+p256_point_from = curve_point_from Nistp256
 
 abbrev pub p256_point_format : Format (List ℕ)
-p256_point_format = without_memory (tested p256_point_from string_format)
+p256_point_format = curve_point_format Nistp256
 
 -- the point, if it is of the stated curve
 abbrev pub of_curve : Curve → Curve × List ℕ → Result (Curve × List ℕ) Fault

@@ -4,7 +4,7 @@ use Rattle.std.specs.Int.{w32}
 use Rattle.sshkey_model.specs.Parts.{Parts, bytes, number, box, ◌&◌, flat}
 use Rattle.sshkey_model.specs.Texts.{string, IsText}
 use Rattle.sshkey_model.specs.Points.{curve_eq}
-use Rattle.sshkey_model.specs.Keys.{Key, Dsa, Ecdsa, Ed25519, Rsa, SkEcdsa, SkEd25519, Opaque, DsaKey, IsKey, key, key_algorithm, Head, Plain, HasHead}
+use Rattle.sshkey_model.specs.Keys.{Key, Dsa, Ecdsa, Ed25519, Rsa, SkEcdsa, SkEd25519, Opaque, IsKey, key, key_algorithm, Head, Plain, HasHead}
 use Rattle.sshkey_model.specs.KeyDerivation.{Cipher, NoCipher, block_size, tag_size, padding_length, cipher, Kdf, NoKdf, kdf}
 use Rattle.sshkey_model.specs.KeyPairs.{KeyPair, public_half, KeyPairChoices, plain_pair, IsKeyPair, HasKeyPairPlaces, keypair, derived_checkint}
 
@@ -110,11 +110,8 @@ HasPrivateKeyPlaces k s = HasHead (key_algorithm (public_key k)) s.outer × HasC
 
 -- ---- equal keys
 
-abbrev pub dsa_eq : DsaKey → DsaKey → Bool
-dsa_eq k l = bytes_eq k.p l.p && bytes_eq k.q l.q && bytes_eq k.g l.g && bytes_eq k.y l.y
-
 abbrev pub key_eq : Key → Key → Bool
-key_eq (Dsa k) (Dsa l) = dsa_eq k l
+key_eq (Dsa k) (Dsa l) = bytes_eq k.p l.p && bytes_eq k.q l.q && bytes_eq k.g l.g && bytes_eq k.y l.y
 key_eq (Ecdsa c p) (Ecdsa d q) = curve_eq c d && bytes_eq p q
 key_eq (Ed25519 k) (Ed25519 l) = bytes_eq k l
 key_eq (Rsa k) (Rsa l) = bytes_eq k.e l.e && bytes_eq k.n l.n

@@ -30,23 +30,16 @@ asked_within a k application message g = record { algorithm = a; key = k; messag
 -- 6; PROTOCOL.u2f). An RSA signature without a hash, by SHA-1, is not among them.
 abbrev pub question_under : Algorithm → Key → List ℕ → Signature → Option Question
 question_under Algorithm.Dsa (Dsa k) m g = Some (asked (Dsa k) m g)
-question_under Algorithm.Dsa _ m g = None
 question_under (Algorithm.Ecdsa d) (Ecdsa c point) m g = same (curve_eq c d) (asked (Ecdsa c point) m g)
   where
     same : Bool → Question → Option Question
     same true q = Some q
     same false q = None
-question_under (Algorithm.Ecdsa d) _ m g = None
 question_under Algorithm.Ed25519 (Ed25519 k) m g = Some (asked (Ed25519 k) m g)
-question_under Algorithm.Ed25519 _ m g = None
 question_under (Algorithm.Rsa (Some h)) (Rsa k) m g = Some (asked (Rsa k) m g)
-question_under (Algorithm.Rsa (Some h)) _ m g = None
-question_under (Algorithm.Rsa None) _ m g = None
 question_under Algorithm.SkEcdsa (SkEcdsa k) m g = Some (asked_within (Algorithm.Ecdsa Nistp256) (Ecdsa Nistp256 k.key) k.application m g)
-question_under Algorithm.SkEcdsa _ m g = None
 question_under Algorithm.SkEd25519 (SkEd25519 k) m g = Some (asked_within Algorithm.Ed25519 (Ed25519 k.key) k.application m g)
-question_under Algorithm.SkEd25519 _ m g = None
-question_under (Algorithm.Other name) _ m g = None
+question_under _ _ m g = None
 
 abbrev pub question : Key → List ℕ → Signature → Option Question
 question k message g = question_under g.algorithm k message g
